@@ -24,12 +24,12 @@ CHAPTERS = (
         "Plain data",
         "The types are Rust's own, in `crates/nook_data/src/`, `crates/asm_defs/src/` and `crates/input_defs/src/`. A list of the code "
         "is a list of its items to a definition.",
-        ("nook_data/Types", "nook_data/Places", "nook_data/Layout", "nook_data/Frames", "nook_data/Names", "nook_data/Valid"),
+        ("nook_data/Types", "nook_data/Numbered", "nook_data/Layout", "nook_data/Frames", "nook_data/Names", "nook_data/Valid"),
     ),
     Chapter(
         "The driver machine",
         "What an instruction does, what devices give and take, and what a burst is.",
-        ("machine_defs/Mnemonics", "machine_defs/Machine", "machine_defs/Pages", "machine_defs/Devices", "machine_defs/Turn",
+        ("machine_defs/Mnemonics", "machine_defs/Machine", "machine_defs/Pages", "machine_defs/Devices", "machine_defs/Execution",
          "machine_defs/BurstFaults", "machine_defs/Burst"),
     ),
     Chapter(
@@ -100,8 +100,8 @@ CHAPTERS = (
     Chapter(
         "The program",
         "What a source and a sink are, which words ask for what, and what the program answers.",
-        ("nook_io/Causes", "command_forms/Forms", "nooks/Texts", "nooks/Streams", "nooks/Guardable", "nooks/Answers",
-         "nooks/Endings"),
+        ("nook_io/Causes", "nook_io/Changes", "command_forms/Forms", "nooks/Texts", "nooks/Streams", "nooks/Guardable",
+         "nooks/Answers", "nooks/Endings"),
     ),
 )
 

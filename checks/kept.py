@@ -42,9 +42,9 @@ def status_of(report: bytes) -> int:
 def check_files(results: Results) -> None:
     """No file is without its input or its output."""
     scenarios = {name.split(".")[0] for ending in OF_SCENARIO for name in names(ending)}
-    results.same("checks/runs: scenarios, and those with a file beside them", names(".json"), sorted(scenarios))
+    results.same("checks/runs: scenarios, and those with a file of the same name", names(".json"), sorted(scenarios))
     texts = {name for ending in OF_TEXT for name in names(ending)}
-    results.same("checks/runs: texts, and those with a file beside them", names(".asm"), sorted(texts))
+    results.same("checks/runs: texts, and those with a file of the same name", names(".asm"), sorted(texts))
 
 
 def check_reports(results: Results, whose: str, program: str, form: str, ending: str) -> None:

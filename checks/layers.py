@@ -12,6 +12,12 @@ CRATES = TOP / "crates"
 # separate only for the build.
 MARKS = ("layer", "law", "cases", "build")
 
+# The crates that print, or read what is printed, by way of report_text. What simulates, judges or searches is not among them.
+PRINTERS = (
+    "turn_trace", "burst_trace", "campaign_rows", "fault_campaign", "explored_text", "journal_audit", "nooks", "nooks_main",
+    "answer_laws", "run_cases", "nooks_cases",
+)
+
 
 def lines_of_crates() -> dict[str, str]:
     """The line of each crate in crates.txt, by its name, without the mark after it."""
@@ -31,7 +37,7 @@ def marks() -> dict[str, str]:
     found = {name: note for name, _, note in split_lines()}
     for name, note in found.items():
         if note not in MARKS:
-            sys.exit(f"crates.txt: the line of {name} has {note!r} behind it, and has to have # and one of {', '.join(MARKS)}")
+            sys.exit(f"crates.txt: the line of {name} has {note!r} at its end, and must have # and one of {', '.join(MARKS)}")
     return found
 
 
@@ -50,6 +56,12 @@ def all_below(crate: str, below: dict[str, list[str]]) -> set[str]:
             found.add(name)
             more += below[name]
     return found
+
+
+def simulating_on_printing() -> list[str]:
+    """The crates that use report_text, directly or not, and are not among PRINTERS."""
+    below = below_each(lines_of_crates())
+    return [name for name in below if name not in PRINTERS and "report_text" in all_below(name, below)]
 
 
 def size(crate: str) -> int:

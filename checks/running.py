@@ -68,13 +68,13 @@ class Results:
 def difference(found: object, expected: object) -> str:
     """A short line that says how two values differ."""
     if not (isinstance(found, bytes) and isinstance(expected, bytes)):
-        return f"{found!r}, and {expected!r} is wanted"
+        return f"{found!r}, and {expected!r} is expected"
     here = found.split(b"\n")
     there = expected.split(b"\n")
     for number, (line, other) in enumerate(zip(here, there), 1):
         if line != other:
-            return f"line {number} is {line[:200]!r}, and {other[:200]!r} is wanted"
-    return f"{len(here)} lines, and {len(there)} are wanted"
+            return f"line {number} is {line[:200]!r}, and {other[:200]!r} is expected"
+    return f"{len(here)} lines, and {len(there)} are expected"
 
 
 def run(program: str, words: Sequence[str | bytes], given: bytes = b"", **how: Any) -> Ended:

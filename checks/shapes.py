@@ -120,13 +120,13 @@ def value_of(expression: str, known: dict[str, int], file: str) -> int:
             left, right = value(node.left), value(node.right)
             kinds = {ast.Add: left + right, ast.Sub: left - right, ast.Mult: left * right}
             return left // right if isinstance(node.op, ast.Div) else kinds[type(node.op)]
-        raise UnknownShape(f"{file}: checks/tables cannot tell the value of {expression!r}")
+        raise UnknownShape(f"{file}: checks/tables does not know the value of {expression!r}")
 
     plain = re.sub(r" as \w+", "", re.sub(r"\b(length )?(\w+)\.(\w+)", r"\3", expression))
     try:
         return value(ast.parse(plain.strip(), mode="eval").body)
     except (SyntaxError, KeyError) as error:
-        raise UnknownShape(f"{file}: checks/tables cannot tell the value of {expression!r}") from error
+        raise UnknownShape(f"{file}: checks/tables does not know the value of {expression!r}") from error
 
 
 def constants(file: str, known: dict[str, int] | None = None) -> dict[str, int]:

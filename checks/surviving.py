@@ -240,7 +240,7 @@ def silent_table(files: dict[str, Any], *names: str) -> list[Row]:
     for name in names:
         counts = all_kinds(files, name, WITHOUT, EXPERIMENTS[name].most)
         asked = EXPERIMENTS[name].asked
-        label = f"{asked.faults}, at any turn" if asked.any_turn else str(asked.faults)
+        label = f"{asked.faults}, at any instruction" if asked.any_turn else str(asked.faults)
         rows.append([label, *(share_text(counts[driver]["percent"]["silent"]) for driver in drivers)])
     return rows
 

@@ -166,7 +166,7 @@ def campaign() -> dict[str, Row]:
 
 def inputs() -> dict[str, dict[str, Row]]:
     """For each kind of object of an input the values at the keys that all of its kind have, or that one class has."""
-    entry = matched(rf"number_at entry ({ATOM}) ({ATOM}) d", equations(IMAGE, "places_from")[-1].body, IMAGE, "an entry's place")
+    entry = matched(rf"number_at entry ({ATOM}) ({ATOM}) d", equations(IMAGE, "addresses_from")[-1].body, IMAGE, "an entry's address")
     return {
         "scenario": ranges(SCENARIO, "scenario_of"),
         "part": ranges(PART, "part_of", "part_blocks", "part_bad", "part_arrivals"),
@@ -391,7 +391,7 @@ def forms() -> list[Row]:
             raise UnknownShape(f"{TEXTS}: help_text has {len(known)} lines of the form {name} of {FORMS}")
         found.append({"words": known[0], "name": snake(name), "reads": reading[name] == "true", "about": abouts[known[0]]})
     if len(found) != len(abouts):
-        raise UnknownShape(f"{TEXTS}: help_text has {len(abouts)} forms of words, and IsForm in {FORMS} has {len(found)}")
+        raise UnknownShape(f"{TEXTS}: help_text has {len(abouts)} subcommands, and IsForm in {FORMS} has {len(found)}")
     return sorted(found, key=lambda row: list(abouts).index(row["words"]))
 
 
@@ -425,7 +425,7 @@ TABLES = (
     Table("memory_map", (MAP,), memory_map),
 )
 
-ABOUT = "Made by checks/tables from the sources that it names here; no other place of the workbench has these facts."
+ABOUT = "Made by checks/tables from the sources that it names here; no other file of the workbench has these facts."
 
 
 def tables() -> dict[str, Any]:

@@ -4,7 +4,8 @@ checks/pages uses this module. `python3 -B checks/wording.py [PATH..]` prints wh
 counts, by default in those of CODE.
 
 Texts in backticks and in quotation marks are not looked at: they quote the program, a format or a name. Names are those
-that Python code defines, and all identifiers of Rust, C and JavaScript, split at underscores and capitals.
+that Python code defines, and all identifiers of the crates' languages, C and JavaScript, split at underscores and
+capitals. Of a must-fail edit its `old:` and `new:` lines are looked at.
 """
 
 from __future__ import annotations
@@ -64,8 +65,8 @@ RETIRED_IN_NAMES = {
     r"tally|tallies": "results, counts",
 }
 
-# The folders and files whose code is checked. The crates follow when they are proved with their new names.
-CODE = ("checks", "bench", "workbench", "packaging", "examples")
+# The folders and files whose code is checked.
+CODE = ("crates", "checks", "bench", "workbench", "packaging", "examples")
 CODE += ("Makefile", ".ci/run", "nooks", "nooks-plain", "nooks-unproved", "pyproject.toml")
 
 # Folders below these that have no code, with the reason.
@@ -83,6 +84,9 @@ EXCEPTIONS = {
     ("workbench/nooks_bench/table.py", "place"): KEY_OF_SWEEP,
     ("workbench/nooks_bench/page_files/page.js", "place"): KEY_OF_PAGE,
     ("workbench/nooks_bench/page_files/state.js", "place"): KEY_OF_PAGE,
+    ("crates/*/proofs/*", "tells_digits"): "a lemma of std",
+    ("crates/domain_pages/proofs/packed/*", "told"): "a name that the checker makes for the length of an array",
+    ("crates/part_core/proofs/part/Part/bursts/*", "behind"): "a name that the checker makes for what a reference leads to",
 }
 
 # For each language that Python has no lexer for a regular expression of comments, skipped texts and names.
@@ -94,10 +98,12 @@ JAVASCRIPT = rf"{COMMENT}|{PATTERN}|{TEXT}|'(?:\\.|[^'\\])*'|`(?:\\.|[^`\\])*`|(
 SHELL = rf"(?m:(?<!\S)@?(?P<comment>#(?!!)[^\n]*))|'[^']*'|{TEXT}|\\."
 STYLE = r"(?P<comment>/\*.*?\*/)"
 ASSEMBLER = r"(?P<comment>;[^\n]*)"
-LEXERS = {".rs": RUST, ".c": RUST, ".js": JAVASCRIPT, ".css": STYLE, ".sh": SHELL, ".toml": SHELL, ".asm": ASSEMBLER}
+ANTT = rf"(?P<comment>--[^\n]*|\{{-.*?-\}})|{TEXT}|(?P<name>[^\W\d][\w']*)"
+LEXERS = {".rt": RUST, ".rs": RUST, ".c": RUST, ".antt": ANTT, ".js": JAVASCRIPT}
+LEXERS |= {".css": STYLE, ".sh": SHELL, ".toml": SHELL, ".asm": ASSEMBLER}
 
 # The marks of comments at the beginning of a line.
-MARKS = re.compile(r"(?m)^[ \t]*(?:///?|//!|/?\*+/?|#+:?|;+)(?!\S*[/*])|\"\"\"|\*/$")
+MARKS = re.compile(r"(?m)^[ \t]*(?:///?|//!|/?\*+/?|#+:?|;+|--+)(?!\S*[/*])|\"\"\"|\*/$")
 
 
 class Finding(NamedTuple):
@@ -186,6 +192,9 @@ def pieces_of(path: str) -> tuple[list[Piece], list[Piece]]:
     ending = os.path.splitext(path)[1]
     with open(os.path.join(TOP, path), encoding="utf-8", errors="replace") as file:
         text = file.read()
+    edited = re.match(r"file: .*(\.\w+)\n", text) if ending == ".edit" else None
+    if edited:
+        ending, text = edited[1], re.sub(r"(?m)^(?:old|new): |^(?!old: |new: ).*$", "", text)
     # The language of a file without an ending is that of its first line.
     first = text.split("\n", 1)[0]
     if ending == ".py" or not ending and re.match("#!.*python", first):

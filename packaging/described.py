@@ -109,7 +109,7 @@ def forms(program: str) -> tuple[list[Form], list[Form]]:
         Form(each.words.removeprefix("status "), each.about) for each in lines if each.words.startswith("status ")
     ]
     if not words or not statuses:
-        sys.exit(f"{program} is no program nooks: its --help names no form of words")
+        sys.exit(f"{program} is no program nooks: its --help names no subcommand")
     return words, statuses
 
 

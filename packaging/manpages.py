@@ -53,11 +53,11 @@ def nooks_page(program: str, docs: str) -> str:
     lines += [
         ".SH DESCRIPTION",
         escaped(
-            "Runs device drivers in protection domains of their own, lets faults strike them, and restarts them "
+            "Runs device drivers in their own protection domains, lets faults strike them, and restarts them "
             "unseen by the applications that use them, as Nooks with shadow drivers does. The input is read from "
             "standard input, and the report is written to standard output."
         ),
-        ".SH FORMS OF WORDS",
+        ".SH SUBCOMMANDS",
         *items([(marked(form.words), form.about) for form in words]),
         ".SH EXIT STATUS",
         *items([(marked(form.words), form.about) for form in statuses]),

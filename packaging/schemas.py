@@ -15,7 +15,7 @@ Schema = dict[str, Any]
 DRAFT = "https://json-schema.org/draft/2020-12/schema"
 GENERATED = "This file is generated: checks/tables"
 ABOUT_SCENARIO = "What a schema cannot say docs/SCENARIO.md does: that names differ, the class of an assembler text, " \
-    f"places below the number of parts. Numbers are digits alone. {GENERATED}"
+    f"indices below the number of parts. Numbers are digits alone. {GENERATED}"
 ABOUT_CAMPAIGN = "What a schema cannot say docs/CAMPAIGN.md does: that the part is one of the base, which has at " \
     f"most {LIMITS['MOST_FAULTS']} faults with those of a member and the guard's traps, and that the base has at " \
     f"most {LIMITS['MOST_CAMPAIGN_OPS']} operations. {GENERATED}"
@@ -30,9 +30,9 @@ NOTES = {
     ("bad", "after"): "the commands on that block that still succeed",
     ("image", "data"): "the initial words of the data area",
     ("fault", "burst"): "the burst that it strikes, counted from 1 over the whole run of the part",
-    ("fault", "after"): "the turns of that burst that come before it",
-    ("operation", "part"): "a place below the number of parts",
-    ("campaign", "part"): "the part that is struck: a place below the number of the base's parts",
+    ("fault", "after"): "the instructions of that burst that come before it",
+    ("operation", "part"): "an index below the number of parts",
+    ("campaign", "part"): "the part that is struck: an index below the number of the base's parts",
     ("campaign", "faults"): "one for each member",
     ("campaign", "members"): "the faults of each member",
     ("campaign", "every"): "a member for each, before each instruction of the struck part",

@@ -1,6 +1,6 @@
 //! The record that a part makes of each step.
 
-use crate::machine::MOST_TURNS;
+use crate::machine::MOST_INSTRUCTIONS;
 use crate::operation::Operation;
 use std::rc::Rc;
 
@@ -118,7 +118,7 @@ impl Burst {
     /// The count of turns in its line: a hang has the most that there may be, even if it was injected earlier.
     pub fn reported_turns(&self) -> u32 {
         match self.failure {
-            Some(Failure::Trap(Trap::Hang)) => MOST_TURNS,
+            Some(Failure::Trap(Trap::Hang)) => MOST_INSTRUCTIONS,
             _ => self.turns,
         }
     }

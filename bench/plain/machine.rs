@@ -9,7 +9,7 @@ use std::hint::black_box;
 use std::ops::Range;
 
 /// The turns and the acts of a burst.
-pub const MOST_TURNS: u32 = 4_096;
+pub const MOST_INSTRUCTIONS: u32 = 4_096;
 const MOST_ACTS: usize = 64;
 
 #[derive(Clone, PartialEq, Eq, Hash)]
@@ -53,7 +53,7 @@ pub fn run_burst(cpu: &mut Cpu, bus: &mut Bus, faults: &[Fault]) -> (u32, Crossi
             Strike::Done | Strike::Refused => {}
         }
     }
-    let (done, crossing) = cpu.run(done..MOST_TURNS, bus);
+    let (done, crossing) = cpu.run(done..MOST_INSTRUCTIONS, bus);
     (done, crossing.unwrap_or(Trap::Hang.into()))
 }
 

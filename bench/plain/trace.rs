@@ -3,7 +3,7 @@
 use crate::instructions::{Fields, Instruction, IN, JAL, LD, LI, ST};
 use crate::journal::Event;
 use crate::lines::Outcome;
-use crate::machine::{strike, Bus, Cpu, Crossing, Strike, MOST_TURNS};
+use crate::machine::{strike, Bus, Cpu, Crossing, Strike, MOST_INSTRUCTIONS};
 use crate::part::{Before, Part, Step};
 use crate::scenario::{Fault, FaultKind};
 use std::fmt::{self, Display, Formatter};
@@ -62,7 +62,7 @@ fn write_turns(before: &mut Before, out: &mut impl Write) -> io::Result<usize> {
             return Ok(index + 1);
         }
     }
-    tracer.write_up_to(MOST_TURNS, out)?;
+    tracer.write_up_to(MOST_INSTRUCTIONS, out)?;
     Ok(faults.len())
 }
 

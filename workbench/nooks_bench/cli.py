@@ -27,7 +27,7 @@ SUBCOMMANDS = {
     "serve": "the page from a local server, with editing",
     "gallery": "the pages of all scenarios of a folder",
     "explain": "a report, or the line of a refused input, for people",
-    "trace": "one burst, turn by turn, beside the driver's source",
+    "trace": "one burst, instruction by instruction, next to the driver's source",
     "replay": "the schedule that gives a report of threads again",
     "schedules": "how a run can end, over every order of its steps",
     "shrink": "a smaller scenario of which the same holds",

@@ -20,7 +20,7 @@ from .words import counted
 ABOUT = """Runs the scenario FILE and counts what protects the kernel from its drivers: changes of domain, kernel calls,
 words that are copied and cleared, pages whose rights change or that are loaded, for each operation, for the boot and
 for recoveries. The counts are exact. With --model they are weighed with cycles from a TOML file, which nobody measured:
-the time with protection and without, and where the one is twice the other."""
+the time with protection and without, and when the one is twice the other."""
 
 TRACED_INSTRUCTION = re.compile(r"^\d+ \d+ ", re.MULTILINE)
 

@@ -84,7 +84,7 @@ class Sentences:
         whose = f"the shadow's {before.stage.split(' ')[0]}" if event.context == SHADOW else f"c{event.call}"
         whose = f"{self.name(event.context)}'s {asked(call)}" if call else whose
         did = f": {', '.join(folded_lines(list(event.acts)))}" if event.acts else ""
-        return f"The driver works {counted(event.instructions, 'turn')} for {whose}{did}. {self.end(event)}"
+        return f"The driver works {counted(event.instructions, 'instruction')} for {whose}{did}. {self.end(event)}"
 
     def end(self, event: Event) -> str:
         """How a burst ended."""
@@ -96,7 +96,7 @@ class Sentences:
             by = f"c{event.call} is answered {BY_DRIVER}"
             return f"It replies {event.text.split(' ')[1]}, and {by}: {short(event.answer)}."
         if event.text == "pause":
-            return "It pauses after its 64th act, and goes on with another burst."
+            return "It pauses after its 64th act, and continues with another burst."
         found = SERVICE.fullmatch(event.text)
         if not found:
             return f"It replies {event.text.split(' ')[1]}."

@@ -23,7 +23,8 @@ STATUSES = {
 
 def answered_text(call: Call) -> str:
     """At which event and by whom a call was answered."""
-    interrupted = f", cut by a failure at event {', '.join(map(str, call.interruptions))}" if call.interruptions else ""
+    events = ", ".join(map(str, call.interruptions))
+    interrupted = f", interrupted by a failure at event {events}" if events else ""
     answered = {
         REFUSED: f"answered {REFUSED}, event {call.answered}",
         AT_ENTER: f"answered at its enter, event {call.answered}",
@@ -62,7 +63,7 @@ def failure_lines(part: Part) -> list[str]:
             if trap := part.guards.get(event.burst):
                 lines.append(stopped_line(trap, event.number, work))
                 continue
-            position = f"event {event.number}, burst {event.burst}, turn {event.instructions}"
+            position = f"event {event.number}, burst {event.burst}, instruction {event.instructions}"
             cause = event.cause or ""
             lines.append(f"failed at {position}, in {work}: {cause} ({cause_words(cause)})")
     return lines
@@ -120,7 +121,7 @@ def report_lines(report: Report, strikes: dict[int, list[Strike]] | None = None)
     """A report for people; `strikes` has what became of the faults of each part."""
     lines = [f"status {report.status}: {STATUSES.get(report.status, 'unknown')}"]
     if report.guards:
-        lines.append(f"behind a guard, which stopped drivers {counted(len(report.guards), 'time')}")
+        lines.append(f"with a guard, which stopped drivers {counted(len(report.guards), 'time')}")
     for thread, calls in zip(report.threads, calls_of_threads(report)):
         lines += ["", *thread_lines(thread, calls)]
     for part in report.parts:

@@ -37,14 +37,14 @@ class Allowed:
     def ends(self) -> tuple[int, int]:
         """The least and the greatest number."""
         if self.least is None or self.most is None:
-            raise ValueError("no number stands at this key")
+            raise ValueError("this key has no number")
         return self.least, self.most
 
     @property
     def length(self) -> tuple[int, int]:
         """The least and the greatest number of items."""
         if self.items is None:
-            raise ValueError("no list stands at this key")
+            raise ValueError("this key has no list")
         return self.items
 
 

@@ -21,7 +21,7 @@ RANGES = {
     "burst": INPUTS["fault"]["burst"].ends,
     "call": (1, MOST_WORD),
     "try": (1, MOST_WORD),
-    "every": (1, LIMITS["MOST_TURNS"]),
+    "every": (1, LIMITS["MOST_INSTRUCTIONS"]),
     "random": (1, 1_000_000),
     "seed": SCHEDULES["drawn"]["start"].ends,
     **{key: allowed.ends for keys in FAULT_KINDS.values() for key, allowed in keys.items()},
@@ -50,16 +50,16 @@ def add_selection(parser: argparse.ArgumentParser) -> None:
     """The options that choose the faults."""
     about = "which faults are tried; without --burst or --call every burst of a call"
     group = parser.add_argument_group("faults", about)
-    group.add_argument("--part", type=int, default=0, metavar="P", help="the place of the struck part (default 0)")
+    group.add_argument("--part", type=int, default=0, metavar="P", help="the index of the struck part (default 0)")
     about = "a kind of fault; may be given again (default trap)"
     group.add_argument("--kind", action="append", choices=KINDS, help=about)
     group.add_argument("--burst", metavar="A-B", help="these bursts of the part: 3, 3-9 or 3,6-7")
     group.add_argument("--call", type=int, metavar="N", help="the bursts of call cN")
     group.add_argument("--try", type=int, dest="attempt", metavar="T", help="with --call, those of its Tth attempt")
-    group.add_argument("--every", type=int, default=1, metavar="K", help="each Kth turn (default 1)")
+    group.add_argument("--every", type=int, default=1, metavar="K", help="each Kth instruction (default 1)")
     group.add_argument("--at-acts", action="store_true", help="only just before and just after each act on the device")
-    group.add_argument("--random", type=int, metavar="N", help="N faults drawn from the chosen places and kinds")
-    group.add_argument("--seed", type=int, default=1, metavar="S", help="what draws begin from (default 1)")
+    group.add_argument("--random", type=int, metavar="N", help="N faults drawn from the chosen instructions and kinds")
+    group.add_argument("--seed", type=int, default=1, metavar="S", help="the seed of the random choices (default 1)")
     group.add_argument("--address", metavar="A-B", help="for poke and code: these addresses")
     group.add_argument("--register", metavar="A-B", help="for reg: these registers")
     group.add_argument("--value", metavar="A-B", help="for poke, code and reg: these values (default 1)")

@@ -71,7 +71,7 @@ def pages_of(program: Program, name: str, scenario: Scenario, args: argparse.Nam
         data = made_data(program, scenario, guard, args.traces, f"{name}{suffix}", args)
         file = f"{name}{suffix}.html"
         write(os.path.join(args.output, file), page_text(data))
-        how = f"{name}, behind a guard" if guard else name
+        how = f"{name}, with a guard" if guard else name
         made.append(Entry(file, how, data["status"]))
         if not data["status"].startswith(f"status {NUMBERS['contract_broken']}:"):
             break

@@ -18,7 +18,7 @@ from .source import read_text
 from .words import either
 
 ABOUT = """Writes a scenario with operations for the driver of an assembler text, as `build` takes it. The operations
-are of the driver's class and drawn from --seed; their sizes, places and values lie at the edges of what may be asked.
+are of the driver's class and drawn from --seed; their sizes, blocks and values are at the edges of what may be asked.
 The scenario names the driver's file, from the folder of --output on, or from this folder on."""
 
 # The most words of a frame and samples of a play; and the sizes that are drawn: the least, the most, and some around a

@@ -30,7 +30,7 @@ def deed_text(trace: Trace, after: int) -> str:
     executed = next((each for each in trace.executed() if each.number == after + 1), None)
     if executed is None:
         burst = f"burst {trace.burst} of part {trace.part}"
-        raise Mistake(f"{burst} has no turn {after + 1}: the traps are of another scenario")
+        raise Mistake(f"{burst}has no instruction {after + 1}: the traps are of another scenario")
     return short(executed.acts[0]) if executed.acts else crossing_text(trace.end)
 
 
@@ -70,5 +70,5 @@ def would_have(trap: GuardTrap) -> str:
 
 def stopped_line(trap: GuardTrap, event: int, work: str = "") -> str:
     """A line that says what a guard stopped at an event, and what the driver was doing."""
-    position = f"event {event}, burst {trap.burst}, before turn {trap.after + 1}"
+    position = f"event {event}, burst {trap.burst}, before instruction {trap.after + 1}"
     return f"stopped by the guard at {position}{', in ' if work else ''}{work}: {would_have(trap)}"

@@ -15,11 +15,11 @@ from .source import read_text
 from .strip import Strips, fill_instructions, strips_of, writes_traces
 from .sweep import add_sweep_options, swept
 
-ABOUT = """Draws a sweep as an SVG: for each burst a row for each thing that strikes there, a column for each turn, and
-over them a strip of the burst's instructions, in which those that act on the device are marked. A cell has the colour
-of what became of the fault; the number in it is the clause that was broken, or how much was lost. Rows that look the
-same are one. The pointer over a cell says the fault, the outcome and the instruction. With --guard the same faults
-behind a guard are on the right. The options are those of sweep; with --from, the sweep is one that `sweep --json`
+ABOUT = """Draws a sweep as an SVG. Each burst has a row for each thing that strikes there, and a column for each
+instruction. Above them is a strip of the burst's instructions, with marks on those that act on the device. The colour
+of a cell is the fault's outcome; the number in it is the broken clause, or how much was lost. Equal rows are drawn
+once. The pointer over a cell shows the fault, the outcome and the instruction. With --guard the same faults with a
+guard are on the right. The options are those of sweep; with --from, the sweep is one that `sweep --json`
 wrote, and the program is asked for the strip alone."""
 
 DEFAULT_WIDTH = 1500
@@ -78,7 +78,7 @@ def picture_of(args: argparse.Namespace, base: Scenario | None = None) -> str:
     if not args.no_fold:
         groups = [fold_rows(group) for group in groups]
     names = ", ".join(part["name"] for part in runs[0]["base"]["parts"])
-    names += ", without a guard and behind one" if any(line.guarded for group in groups for line in group.lines) else ""
+    names += ", without a guard and with one" if any(line.guarded for group in groups for line in group.lines) else ""
     notes = caption_lines(args, program, f"scenario {hash_of(runs[0]['base'])}")
     strip = NO_STRIP if args.no_instructions else args.strip
     look = Look(room_of(args, DEFAULT_WIDTH), args.wrap, strip)
@@ -97,11 +97,11 @@ def add_to(commands: argparse._SubParsersAction[argparse.ArgumentParser]) -> Non
     parser.add_argument("--from", dest="from_", metavar="SWEEP", help="the JSON of a sweep; it is not run again")
     parser.add_argument("--title", metavar="TEXT", help="the text over the map")
     parser.add_argument("--together", action="store_true", help="one row a burst; a cell shows the worst of its faults")
-    about = "a row for each thing that strikes, also if some look the same"
+    about = "a row for each thing that strikes, even if some look the same"
     parser.add_argument("--no-fold", action="store_true", help=about)
     about = "what the strip over the cells shows of each instruction (default mnemonics)"
     parser.add_argument("--strip", choices=STRIPS, default=MNEMONICS, help=about)
     parser.add_argument("--no-instructions", action="store_true", help="do not ask for the instructions: no strip")
     wide = f"the width in pixels (default {DEFAULT_WIDTH})"
-    add_picture_options(parser, wide, "N turns side by side, the next ones below (default: as many as fit)")
+    add_picture_options(parser, wide, "N instructions in a row, the next ones below (default: as many as fit)")
     parser.set_defaults(run=run)

@@ -25,7 +25,7 @@ MOST_ROWS = 4
 
 # The space between the two halves, and the titles over them.
 GAP = 24
-HALVES = ("without a guard", "behind a guard")
+HALVES = ("without a guard", "with a guard")
 
 # Follows the label of a burst that continues in a further row.
 CONTINUED = ", on"
@@ -172,7 +172,7 @@ class Map:
             self.act(21, self.y, sorted(acts)[0], "")
             self.text(35, f"the instruction that acts on the device: {named}", 11, BLACK)
         strip = "; over the cells the instruction that comes next" if self.strips else ""
-        self.text(12, "across: the turns of the burst before the fault" + strip, 9, GREY)
+        self.text(12, "across: the instructions of the burst before the fault" + strip, 9, GREY)
         self.y += 4
 
     def count(self, name: str, clause: int) -> str:
@@ -180,7 +180,7 @@ class Map:
         counts = [counts[name, clause] for counts in self.counts]
         if not any(counts):
             return ""
-        return f"({counts[0]})" if len(counts) == 1 else f"({counts[0]}, behind a guard {counts[1]})"
+        return f"({counts[0]})" if len(counts) == 1 else f"({counts[0]}, with a guard {counts[1]})"
 
     def text(self, x: float, text: str, size: float, fill: str) -> None:
         """Words of the legend, in as many lines as they need."""

@@ -33,9 +33,9 @@ MOST_TRIALS = 1_000_000
 GUARDS = {"no": (False,), "yes": (True,), "both": (False, True)}
 
 ABOUT = """Changes instructions of the driver of the scenario FILE as programmers get them wrong, runs each such driver,
-and counts what the system saw, and what the driver's contract saw before that. The faults are live, written at the
-first burst of a drawn call and mended by the next load, or latent, in the image from the beginning. FILE is exact JSON,
-or a scenario as `build` takes it; without faults its run has to end with status 0."""
+and counts what the system detected, and what the driver's contract detected before that. Live faults are written at
+the first burst of a drawn call, and the next load overwrites them; latent faults are in the image from the beginning.
+FILE is exact JSON, or a scenario as `build` takes it; without faults its run has to end with status 0."""
 
 
 @dataclass(frozen=True)
@@ -176,7 +176,7 @@ def experiment(program: Program, scenario: Scenario, asked: Asked, args: argpars
 def title_of(asked: Asked, guard: bool, limit: int) -> str:
     """The title of a table."""
     faults = "1 fault" if asked.every or asked.faults == 1 else f"up to {asked.faults} faults"
-    when = "latent" if asked.latent else "live, at any turn" if asked.any_turn else "live"
+    when = "latent" if asked.latent else "live, at any instruction" if asked.any_turn else "live"
     drawn = "every mutant" if asked.every else f"seed {asked.seed}"
     return f"{when}, {faults} a trial, {drawn}, limit {limit}, {'with a guard' if guard else 'without a guard'}"
 
@@ -189,7 +189,7 @@ def text_of(ran: Ran) -> str:
         lines += [title_of(ran.asked, guard, limit), "", *text_lines(ending_rows(counts)), ""]
         lines += [*text_lines(question_rows(counts[-1], questions_of(ran, guard, limit))), ""]
     lines += ["in time, late, silent: per cent of the failures (trials in which the faults had an effect),",
-              "in brackets 95 % intervals, by Wilson's formula; none where all trials that there are were run"]
+              "in brackets 95 % intervals, by Wilson's formula; none if all possible trials were run"]
     return "\n".join(lines)
 
 
@@ -255,14 +255,14 @@ def add_to(commands: argparse._SubParsersAction[argparse.ArgumentParser]) -> Non
 def add_choice(parser: argparse.ArgumentParser) -> None:
     """The options that choose the trials."""
     group = parser.add_argument_group("trials", "which mistakes are tried")
-    group.add_argument("--part", type=int, default=0, metavar="P", help="the place of the struck part (default 0)")
+    group.add_argument("--part", type=int, default=0, metavar="P", help="the index of the struck part (default 0)")
     about = f"a kind of mistake; may be given again (default: all but {MIXED})"
     group.add_argument("--kind", action="append", choices=(*KINDS, MIXED), help=about)
-    about = "trials of each kind (default 100); all that there are if these are no more"
+    about = "trials of each kind (default 100); or all, if there are no more"
     group.add_argument("--trials", type=int, default=100, metavar="N", help=about)
     group.add_argument("--faults", type=int, default=1, metavar="K", help="faults of a trial (default 1)")
-    group.add_argument("--seed", type=int, default=1, metavar="S", help="what draws begin from (default 1)")
+    group.add_argument("--seed", type=int, default=1, metavar="S", help="the seed of the random choices (default 1)")
     group.add_argument("--every-mutant", action="store_true", help="every mutant of each kind, one a trial")
     group.add_argument("--latent", action="store_true", help="in the image, and so in each load of it")
-    about = "strike at a drawn turn of the burst, in place of its beginning"
+    about = "strike at a drawn instruction of the burst, instead of at its beginning"
     group.add_argument("--any-turn", action="store_true", help=about)

@@ -77,7 +77,7 @@ class Journal:
         try:
             exists = os.path.exists(self.path) and os.path.getsize(self.path) > 0
             if exists and not resume:
-                raise Mistake(f"{self.path} is there already: --resume goes on with it")
+                raise Mistake(f"{self.path} is there already: --resume continues it")
             self.file = open(self.path, "r+b" if exists else "wb")
             if exists:
                 self.read(heading)

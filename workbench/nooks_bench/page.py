@@ -20,8 +20,9 @@ from .scenario import Scenario, read_scenario, with_traps
 from .times import PartTimes, times_of
 from .unstruck import strikes_of_report
 
-ABOUT = """Writes one page, an HTML file that needs no network and no server: the run event by event, with what is so
-after each, and its bursts turn by turn beside the driver's text. SCENARIO is exact JSON or as `build` takes it."""
+ABOUT = """Writes one page, an HTML file that needs no network and no server: the run event by event, with the state
+after each, and its bursts instruction by instruction next to the driver's text. SCENARIO is exact JSON or as `build`
+takes it."""
 
 DEFAULT_TRACES = 200
 
@@ -48,7 +49,7 @@ def made_data(program: Program, scenario: Scenario, guard: bool, most: int, titl
     made = [command_text(args), f"{version_of(program)}; scenario {hash_of(scenario)}"]
     data = page_data(title, report, runs, made)
     if guard:
-        data["status"] += ". It is the run behind a guard"
+        data["status"] += ". It is the run with a guard"
     return data
 
 
@@ -77,7 +78,7 @@ def run(args: argparse.Namespace) -> int:
 def add_to(commands: argparse._SubParsersAction[argparse.ArgumentParser]) -> None:
     parser = commands.add_parser("page", help="a run as one HTML page, event by event", description=ABOUT)
     parser.add_argument("file", metavar="SCENARIO", help="a scenario; - is standard input")
-    parser.add_argument("--guard", action="store_true", help="the run behind a guard (docs/GUARD.md)")
+    parser.add_argument("--guard", action="store_true", help="the run with a guard (docs/GUARD.md)")
     parser.add_argument("--title", metavar="TEXT", help="the page's title (default: the file's name)")
     traced = f"trace at most N bursts of each part (default {DEFAULT_TRACES})"
     parser.add_argument("--traces", type=int, default=DEFAULT_TRACES, metavar="N", help=traced)

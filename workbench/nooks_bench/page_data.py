@@ -99,7 +99,8 @@ def notes_of(part: Part, event: Event, deed: Deed | None, strikes: list[Strike])
     notes = [["fault", f"A fault of the scenario struck here: {strike.text}."]
              for strike in strikes if strike.event == event.number]
     if trap := part.guards.get(event.burst):
-        notes.append(["fault", f"The guard stopped the driver here, before turn {trap.after + 1}: {would_have(trap)}."])
+        position = f"before instruction {trap.after + 1}"
+        notes.append(["fault", f"The guard stopped the driver here, {position}: {would_have(trap)}."])
     if deed and deed.event == event.number:
         notes.append(["broken", f"CONTRACT BROKEN here, clause {deed.clause}: {deed.about}. The deed: {deed.text}"])
     return notes

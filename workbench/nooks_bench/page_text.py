@@ -76,7 +76,7 @@ def html_text(title: str, policy: str, script: str, style: str, data: Any) -> st
         f"<style>{style}</style>",
         "</head>",
         "<body>",
-        "<noscript>This page shows a run by a script that stands in it. Let it run scripts.</noscript>",
+        "<noscript>This page shows a run by a script that it contains. Let it run scripts.</noscript>",
         f'<script type="application/json" id="data">{data_text(data)}</script>',
         f'<script type="module">{script}</script>',
         "</body>",

@@ -258,7 +258,7 @@ def too_many(refused: Refused) -> Explained:
 def no_room(refused: Refused, own: int) -> Explained:
     """Explains faults of a part that are too many only together with those of a member and the traps of a guard."""
     asked, part = refused.value, refused.above(1)
-    counts = [f"{own} of its own"]
+    counts = [f"its own {own}"]
     if refused.is_campaign and str(asked["part"]) == refused.path.split("/")[-2]:
         counts.append(f"{max(map(len, asked.get('members', [[None]])))} of a member")
     if asked.get("guard", not refused.is_campaign):

@@ -36,7 +36,7 @@ FAILURES = {GIVEN: STATUSES["given_up"], BREAKS: STATUSES["contract_broken"]}
 ABOUT = """Follows every order in which the steps of the scenario FILE can happen, whatever its own schedule is, and
 writes how its run can end: each outcome, what differs between outcomes, and an order for the worst. If there are too
 many states for that, or with --search, orders are run by themselves: first those without a preemption, a switch away
-from an actor that could go on, then those with one, and so on. That proves nothing of the others."""
+from an actor that could continue, then those with one, and so on. That proves nothing of the others."""
 
 
 def end_by_path(path: str, scenario: Scenario, found: Found) -> End:

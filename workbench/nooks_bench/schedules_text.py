@@ -109,7 +109,7 @@ def search_lines(search: Search) -> list[str]:
     for level in search.levels:
         numbers = [str(each) for each in (level.preemptions, level.tried, level.orders, level.fresh)]
         rows.append([*numbers, "all" if level.is_whole else "a part"])
-    lines = ["", "search by preemptions, switches away from an actor that could go on:", *text_lines(rows)]
+    lines = ["", "search by preemptions, switches away from an actor that could continue:", *text_lines(rows)]
     if search.is_whole:
         return lines + ["every order there is was run, one by one"]
     return lines + ["this proves nothing: any order that was not run may end otherwise, even break a contract"]

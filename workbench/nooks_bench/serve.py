@@ -17,9 +17,9 @@ from .serve_requests import Served, Server
 from .serve_runs import Runs
 
 ABOUT = """Serves the page of `page` on this machine, with editing: the scenario as `build` takes it, the driver's
-text, a fault placed by a click on a turn or on a cell of a map, the run behind a guard, and the outcomes of all orders.
-It prints the address to open, whose token nobody else knows. It listens on 127.0.0.1 alone, reads and writes files of
-FOLDER alone, and ends a run that takes too long or whose page was closed. Ctrl-C ends it. It needs nothing beside
+text, a fault added by a click on an instruction or on a cell of a map, the run with a guard, and the outcomes of all
+orders. It prints the address to open, whose token nobody else knows. It listens on 127.0.0.1 alone, reads and writes
+files of FOLDER alone, and ends a run that takes too long or whose page was closed. Ctrl-C ends it. It needs only
 Python."""
 
 DEFAULT_SECONDS = 30.0

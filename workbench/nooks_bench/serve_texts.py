@@ -63,7 +63,7 @@ def part_of(whole: Node, index: int) -> Node:
     parts = whole.get("parts")
     items = parts.value if parts and isinstance(parts.value, list) else []
     if any(item.get("repeat") for item in items[: index + 1]):
-        raise Mistake("the parts come from a repetition: write them out, and place the fault then")
+        raise Mistake("the parts come from a repetition: write them out, and add the fault then")
     if index >= len(items) or not isinstance(items[index].value, dict):
         raise Mistake(f"the scenario has no part {index}")
     found: Node = items[index]

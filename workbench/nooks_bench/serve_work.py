@@ -120,7 +120,7 @@ def fault_task(asked: Asked) -> Answer:
     """Returns the scenario's text with a fault added."""
     part, fault = asked.given.get("part"), asked.given.get("fault")
     if not isinstance(part, int) or not isinstance(fault, dict):
-        raise Mistake("a fault is placed in a part")
+        raise Mistake("a fault is added to a part")
     return {"text": with_fault(asked.text, asked.file, part, fault)}
 
 

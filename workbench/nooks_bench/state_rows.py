@@ -28,8 +28,8 @@ def call_words(call: OpenCall, now: PartState) -> str:
     if call.where == INSIDE:
         return f"inside the driver, context {call.thread}, {tries}, {counted(call.bursts, 'burst')}"
     if call.where == INTERRUPTED:
-        return f"cut by the failure in its {tries}"
-    again = f", after {tries} was cut" if call.attempts else ""
+        return f"interrupted by the failure in its {tries}"
+    again = f", after {tries} was interrupted" if call.attempts else ""
     return f"held {waits_for(call, now)}{again}"
 
 

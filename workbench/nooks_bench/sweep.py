@@ -29,7 +29,7 @@ from .words import counted
 INTERRUPTED = 130
 
 ABOUT = """Runs the scenario FILE once, then with each of a set of faults, and reports for each what became of it
-against the run without it. Rows of one outcome, cause and place are folded, with their number and one fault of
+against the run without it. Rows with the same outcome, cause and burst are folded, with their number and one fault of
 them as JSON. FILE is exact JSON, or a scenario as `build` takes it."""
 
 
@@ -135,7 +135,7 @@ def base_lines(report: Report) -> list[str]:
 def guarded_base_lines(runs: Sequence[Swept]) -> list[str]:
     """Describes the guarded run without an additional fault, if the guard stopped anything there."""
     guarded = [run.guarded for run in runs if run.guarded and run.guarded.guards]
-    return [f"without, behind a guard: {base_line(each)}, {counted(len(each.guards), 'trap')}" for each in guarded]
+    return [f"without, with a guard: {base_line(each)}, {counted(len(each.guards), 'trap')}" for each in guarded]
 
 
 def as_json(sweep: Sweep, runs: list[Swept], args: argparse.Namespace) -> dict[str, Any]:
@@ -193,7 +193,7 @@ def interrupted_text(sweep: Sweep) -> str:
     text = f"interrupted: {done:,} of {chosen:,} faults"
     if done == chosen:
         return f"{text}, and not all instructions are known"
-    return f"{text}; the same with --resume goes on" if sweep.journal else text
+    return f"{text}; the same command with --resume continues it" if sweep.journal else text
 
 
 def run(args: argparse.Namespace) -> int:
@@ -220,23 +220,23 @@ def add_sweep_options(parser: argparse.ArgumentParser, needed: bool = True) -> N
     else:
         parser.add_argument("file", metavar="FILE", nargs="?", help=about)
     add_selection(parser)
-    parser.add_argument("--guard", action="store_true", help="each fault behind a guard too (docs/GUARD.md)")
+    parser.add_argument("--guard", action="store_true", help="each fault with a guard too (docs/GUARD.md)")
     parser.add_argument("--limit", type=int, metavar="L", help="let the part be recovered L times")
-    parser.add_argument("--schedules", type=int, metavar="N", help="under N drawn schedules, from --seed on")
+    parser.add_argument("--schedules", type=int, metavar="N", help="under N drawn schedules, seeded from --seed up")
     about = "how many runs at a time (default: one for each processor)"
     parser.add_argument("--jobs", type=int, default=processors(), metavar="J", help=about)
     parser.add_argument("--quiet", action="store_true", help="no progress on standard error")
     about = "write the outcomes that are known to FILE, line by line"
     parser.add_argument("--journal", metavar="FILE", help=about)
-    parser.add_argument("--resume", action="store_true", help="go on with the journal, if it is there")
-    parser.add_argument("--dask", metavar="ADDRESS", help="give the work to the Dask scheduler there (tcp://HOST:8786)")
-    parser.add_argument("--dask-program", metavar="PATH", help="where the program is on the cluster's machines")
+    parser.add_argument("--resume", action="store_true", help="continue with the journal, if it is there")
+    parser.add_argument("--dask", metavar="ADDRESS", help="run on the cluster of this Dask scheduler (tcp://HOST:8786)")
+    parser.add_argument("--dask-program", metavar="PATH", help="the program's path on the cluster's machines")
 
 
 def add_to(commands: argparse._SubParsersAction[argparse.ArgumentParser]) -> None:
     parser = commands.add_parser("sweep", help="what becomes of each of a set of faults", description=ABOUT)
     add_sweep_options(parser)
-    about = "ask which instruction stands at each place, and fold by it"
+    about = "ask which instruction each fault comes before, and fold by it"
     parser.add_argument("--instructions", action="store_true", help=about)
     parser.add_argument("--amounts", action="store_true", help="a row for each amount that is lost")
     about = f"count the outcomes by this too; may be given again: {', '.join(GROUPS)}"

@@ -109,7 +109,7 @@ class Sweep:
                 for index in range(plan.first, plan.first + len(plan.faults)):
                     outcome = self.known[index]
                     self.guarded[index] = outcome if outcome and outcome.name != BROKEN else self.guarded[index]
-        with Progress(self.guarded.count(None), self.how.quiet, len(self.plans), "behind a guard: ") as progress:
+        with Progress(self.guarded.count(None), self.how.quiet, len(self.plans), "with a guard: ") as progress:
             self.run_batches(self.guarded, Asking(guarded=True), progress)
         if False in self.wholes and self.program.has_campaign_key("guard"):
             self.wholes[True] = self.guarded_whole()

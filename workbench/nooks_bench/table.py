@@ -124,7 +124,7 @@ def losses_text(least: Losses, most: Losses) -> str:
 def after_text(after: list[int]) -> str:
     """Describes the instructions of a row; a long list by its ends and its length."""
     text = ranges_text(after)
-    return text if len(text) <= LONGEST_LIST else f"{after[0]}-{after[-1]} ({len(after)} of these turns)"
+    return text if len(text) <= LONGEST_LIST else f"{after[0]}-{after[-1]} ({len(after)} of these instructions)"
 
 
 def member_path(folder: str, number: int) -> str:
@@ -148,10 +148,10 @@ def guarded_row_lines(row: Folded) -> list[str]:
     if guarded is None:
         return []
     if (guarded.outcome, guarded.cause) == (row.outcome, row.cause):
-        return ["        behind a guard: the same"]
+        return ["        with a guard: the same"]
     lost = losses_text(guarded.least, guarded.most)
     text = guarded.outcome + (f": {guarded.cause}" if guarded.cause else "")
-    return [f"        behind a guard: {text}", *([f"        lost there: {lost}"] if lost else [])]
+    return [f"        with a guard: {text}", *([f"        lost there: {lost}"] if lost else [])]
 
 
 def row_lines(row: Folded, schedules: int) -> list[str]:

@@ -20,9 +20,9 @@ from .unstruck import Strike, strikes_of_report
 
 ABOUT = """Draws a report: for each part a lane with its modes and stages, one for each thread with its calls, one
 for what the driver did to the device, the failures, a break of the contract and the frames that came. Each event is
-a step to the right. With --input, the scenario of the report, the faults that struck are marked, and of the others
-it is said why they did not. With --guard FILE is a scenario, and its guarded run is drawn: where the guard stopped the
-driver, before which deed, and which clause that would have broken. SVG, or text with --text."""
+a step to the right. With --input, the scenario of the report, the faults that struck are marked, and for the
+others the reason is given. With --guard FILE is a scenario, and its guarded run is drawn: at which event the guard
+stopped the driver, before which deed, and which clause that deed would have broken. SVG, or text with --text."""
 
 DEFAULT_WIDTH = 1500
 
@@ -85,5 +85,5 @@ def add_to(commands: argparse._SubParsersAction[argparse.ArgumentParser]) -> Non
     parser.add_argument("--events", metavar="A-B", help="these events of each part alone")
     parser.add_argument("--text", action="store_true", help="text for a terminal")
     wide = f"the width in pixels (default {DEFAULT_WIDTH}); with --text in columns (default: the terminal's)"
-    add_picture_options(parser, wide, "N events side by side, the next ones below (default: as many as fit)")
+    add_picture_options(parser, wide, "N events in a row, the next ones below (default: as many as fit)")
     parser.set_defaults(run=run)

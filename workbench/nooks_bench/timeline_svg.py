@@ -92,7 +92,7 @@ class Drawing:
         by = {call.by for each in self.times for call in each.calls}
         marks = [(mark, ANSWERS[whose]) for whose, mark in self.answer_marks().items() if whose in by]
         if any(call.interruptions for each in self.times for call in each.calls):
-            marks.append((self.mark_interrupted, "cut by a failure"))
+            marks.append((self.mark_interrupted, "interrupted by a failure"))
         marks.append((self.mark_burst, "burst"))
         if any(each.events("arrive") for each in self.times):
             marks += [(self.mark_delivered, "frame kept"), (self.mark_lost, "frame lost")]
@@ -299,7 +299,7 @@ class Drawing:
                 self.mark_burst(self.middle(number), self.y + BAR / 2, short_event(times.part.event(number)))
         for number in call.interruptions:
             if self.shows(number):
-                title = f"{asked}: cut at event {number}: {times.part.event(number).cause}"
+                title = f"{asked}: interrupted at event {number}: {times.part.event(number).cause}"
                 self.mark_interrupted(self.middle(number), self.y + BAR / 2, title)
 
     def answer_marks(self) -> dict[str, Mark]:

@@ -12,7 +12,7 @@ ANSWERED = {BY_DRIVER: "D", BY_SHADOW: "H", AT_ENTER: "E", REFUSED: "!", GONE: "
 LEGEND = [
     "modes    ^ starts  - serves  ~ recovers  # given up",
     "stages   S stop  C collect  R reset  L load  I init  P replay_set  O replay_open  U resume",
-    "threads  i invoked  . held  ( enters  = inside  b burst  X cut",
+    "threads  i invoked  . held  ( enters  = inside  b burst  X interrupted",
     "         D answered by the driver  H by the shadow  E at its enter",
     "         ! at once, as a wrong operation  G gone, since the part is given up",
     "device   l load  s store  t sent  o popped  p played  r register  f failed  + several kinds",

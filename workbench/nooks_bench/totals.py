@@ -74,7 +74,7 @@ def guarded_lines(runs: Sequence[Swept]) -> list[str]:
     """Returns the outcomes without a guard and with one, in two columns."""
     entries = [entry for run in runs for entry in run.entries]
     sides = [counts_of(entries), guarded_counts(entries)]
-    lines = [f"{'before':>16}{'behind':>16}  a guard"]
+    lines = [f"{'without':>16}{'with':>16}  a guard"]
     for name in OUTCOMES:
         if any(name in counts for counts in sides):
             cells = [share_cell(counts[name], len(entries)) if name in counts else "." for counts in sides]
@@ -86,10 +86,10 @@ def whole_lines(wholes: dict[bool, Whole]) -> list[str]:
     """Describes the totals of campaigns over every instruction."""
     lines: list[str] = []
     for guarded, whole in wholes.items():
-        prefix = "behind a guard: " if guarded else ""
+        prefix = "with a guard: " if guarded else ""
         traps = f", {whole.traps:,} traps" if whole.traps is not None else ""
-        lines.append(f"{prefix}{whole.members:,} faults at every burst and turn, those of the shadow's bursts too: "
-                     f"{whole.given_up:,} given up, {whole.broken:,} broken{traps}")
+        faults = f"{whole.members:,} faults at every burst and instruction, those of the shadow's bursts too"
+        lines.append(f"{prefix}{faults}: {whole.given_up:,} given up, {whole.broken:,} broken{traps}")
         if whole.all_kept:
             lines.append("        so no single fault of these, wherever it strikes, ends with another status than 0")
     return lines
@@ -110,7 +110,7 @@ def total_lines(runs: Sequence[Swept], part: int, is_drawn: bool) -> list[str]:
     of_all = f", of {chosen:,}: interrupted" if done < chosen else ""
     lines.append(f"{done:6}  faults{drawn}{of_all}")
     if cover.turns:
-        lines.append(f"{cover.struck:6}  turns struck, of {cover.turns:,} in {counted(cover.bursts, 'burst')}")
+        lines.append(f"{cover.struck:6}  instructions struck, of {cover.turns:,} in {counted(cover.bursts, 'burst')}")
     if is_drawn and done:
         lines.append("        in brackets 95 % intervals, by Wilson's formula")
     return lines

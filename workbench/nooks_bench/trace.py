@@ -17,9 +17,9 @@ from .trace_text import Executed, Struck, Trace, parse_trace
 from .unstruck import Strike, strikes_of
 from .words import cause_words, service_name, short
 
-ABOUT = """Shows burst B of part P turn by turn: the instruction, the words that it reads and changes, what goes to
-and comes from the device's ports, and beside it the line of the driver's text that made it. SCENARIO is exact JSON
-or as `build` takes it. The turns are those of the program's own `trace P B`."""
+ABOUT = """Shows burst B of part P instruction by instruction: the words that each reads and changes, what goes to
+and comes from the device's ports, and next to it the line of the driver's text that made it. SCENARIO is exact JSON
+or as `build` takes it. The instructions are those of the program's own `trace P B`."""
 
 # How many bursts back the last word of a port is searched for.
 MOST_BURSTS_BACK = 256
@@ -206,7 +206,7 @@ def trace_lines(program: Program, scenario: Scenario, index: int, burst: int) ->
     lines += [f"device: {'; '.join(device)}"] if device else []
     rows = rows_of(trace, source, part.kind)
     wide = min(max((len(left) for left, _ in rows), default=0), MOST_WIDE)
-    rows = [("turn    at  instruction       what it does", "line  source"), *rows]
+    rows = [("   n    at  instruction       what it does", "line  source"), *rows]
     lines += ["", *(f"{left:{wide}}  {right}".rstrip() for left, right in rows), ""]
     return lines + end_lines(trace, event, strikes_of(part, scenario["parts"][index].get("faults", [])))
 
@@ -218,8 +218,9 @@ def run(args: argparse.Namespace) -> int:
 
 
 def add_to(commands: argparse._SubParsersAction[argparse.ArgumentParser]) -> None:
-    parser = commands.add_parser("trace", help="one burst, turn by turn, beside the driver's source", description=ABOUT)
-    parser.add_argument("part", type=int, metavar="P", help="the place of the part in the scenario")
+    about = "one burst, instruction by instruction, next to the driver's source"
+    parser = commands.add_parser("trace", help=about, description=ABOUT)
+    parser.add_argument("part", type=int, metavar="P", help="the index of the part in the scenario, from 0")
     parser.add_argument("burst", type=int, metavar="B", help="the number of the burst in the report (b3 is 3)")
     parser.add_argument("file", metavar="SCENARIO", help="a scenario; - is standard input")
     parser.set_defaults(run=run)

@@ -10,6 +10,7 @@ from dataclasses import dataclass
 from .program import Mistake
 from .report import Event, Part, Report
 from .scenario import Fault, Scenario
+from .words import counted
 
 # The causes in a report of the trap and the hang of a scenario.
 STOPPED_BY = {"trap injected": "trap", "trap hang": "hang"}
@@ -27,8 +28,8 @@ class Strike:
 
     @property
     def text(self) -> str:
-        """The fault in words, as in `fault 0: poke 2048 = 1 after 3 turns of burst 7`."""
-        where = f"after {self.fault['after']} turns of burst {self.fault['burst']}"
+        """The fault in words, as in `fault 0: poke 2048 = 1 after 3 instructions of burst 7`."""
+        where = f"after {self.fault['after']} instructions of burst {self.fault['burst']}"
         return f"fault {self.index}: {strikes_text(self.fault)} {where}"
 
     @property
@@ -64,11 +65,11 @@ def strike_of(part: Part, bursts: dict[int, Event], faults: list[Fault], own: in
     if ender is not None:
         if (fault["after"], index) > (faults[ender]["after"], ender):
             who = f"fault {ender}, a" if ender < own else "the guard's"
-            first = f"{who} {faults[ender]['kind']} after {faults[ender]['after']} turns"
+            first = f"{who} {faults[ender]['kind']} after {faults[ender]['after']} instructions"
             return Strike(index, fault, 0, f"{first}, ended the burst before")
     elif fault["after"] >= event.instructions:
-        turns = "1 turn" if event.instructions == 1 else f"{event.instructions} turns"
-        return Strike(index, fault, 0, f"burst {event.burst} ended after {turns}")
+        count = counted(event.instructions, "instruction")
+        return Strike(index, fault, 0, f"burst {event.burst} ended after {count}")
     return Strike(index, fault, event.number)
 
 

@@ -19,7 +19,7 @@ CAUSES = {
     "trap bad_read {address}": "it read past the end of memory, at address {address}",
     "trap foreign_write {address}": "it wrote to address {address}, which is not its own",
     "trap bad_port {port}": "its device has no port {port} in that direction",
-    "trap hang": f"it ran {facts.LIMITS['MOST_TURNS']:,} instructions without a call into the kernel",
+    "trap hang": f"it ran {facts.LIMITS['MOST_INSTRUCTIONS']:,} instructions without a call into the kernel",
     "trap explicit": "it came to the instruction FAULT",
     "trap injected": "a fault of the scenario stopped it",
     "bad_param {service} {argument}": "argument {argument} of the service {service_name} failed its check",

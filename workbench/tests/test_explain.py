@@ -26,11 +26,11 @@ class Explains(unittest.TestCase):
         self.assertEqual(status, 0)
         for line in [
             "status 0: no part was given up, and every driver kept its class's contract",
-            "    2  p0 write 9 [11 x16, 12 x16, 13 x16]  done  c3 answered by the driver at event 29, cut by a failure at event 15",
+            "    2  p0 write 9 [11 x16, 12 x16, 13 x16]  done  c3 answered by the driver at event 29, interrupted by a failure at event 15",
             "    2  p0 get 1      value 6        c4 answered by the shadow at event 16",
             "    3  p0 get 1      value 6        c5 answered by the shadow at event 17",
             "  6 calls, answered: 4 by the driver, 2 by the shadow",
-            "  failed at event 15, burst 5, turn 205, in c3 write 9 [11 x16, 12 x16, 13 x16]: "
+            "  failed at event 15, burst 5, instruction 205, in c3 write 9 [11 x16, 12 x16, 13 x16]: "
             "trap injected (a fault of the scenario stopped it)",
             "  recovered from event 16 to 27",
         ]:

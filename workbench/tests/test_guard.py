@@ -81,7 +81,7 @@ class Reported(unittest.TestCase):
             status, out, err = bench("explain", "--guard", example_path(name + ".json"))
             self.assertEqual((status, err), (0, ""))
             self.assertIn(f"  {deed}\n", out)
-            self.assertIn("\nbehind a guard, which stopped drivers 1 time\n", out)
+            self.assertIn("\nwith a guard, which stopped drivers 1 time\n", out)
             self.assertNotIn("a fault of the scenario", out)
             _, explained, _ = bench("explain", example_path(name + ".guard"))
             self.assertIn("  " + re.sub(r': by ".*?" it would', ": it would", deed) + "\n", explained)
@@ -110,8 +110,8 @@ class Reported(unittest.TestCase):
             data = json.loads(re.search(r'<script type="application/json" id="data">(.*?)</script>', page, re.DOTALL)[1])
             would = deed.partition(": ")[2]
             notes = [note for event in data["parts"][0]["events"] for note in event[3]]
-            turn = re.search(r"before turn (\d+)", deed)[1]
-            self.assertEqual(notes, [["fault", f"The guard stopped the driver here, before turn {turn}: {would}."]])
+            turn = re.search(r"before instruction (\d+)", deed)[1]
+            self.assertEqual(notes, [["fault", f"The guard stopped the driver here, before instruction {turn}: {would}."]])
             self.assertIn(deed, data["parts"][0]["summary"])
 
     def test_own_faults_after_the_trap(self):
@@ -122,7 +122,7 @@ class Reported(unittest.TestCase):
         faults = [{**fault, "after": trap.after}, {**fault, "after": trap.after + 1}, {**fault, "after": 0, "kind": "trap", "burst": 99}]
         strikes = strikes_of(report.parts[0], faults)
         self.assertTrue(strikes[0].event and not strikes[0].why)
-        self.assertEqual(strikes[1].why, f"the guard's trap after {trap.after} turns, ended the burst before")
+        self.assertEqual(strikes[1].why, f"the guard's trap after {trap.after} instructions, ended the burst before")
 
     def test_several_traps(self):
         """A driver that is always wrong has several traps; each is explained by the deed of that burst."""
@@ -132,20 +132,20 @@ class Reported(unittest.TestCase):
         traps, _ = guard(scenario)
         self.assertEqual(len(traps), 3)
         for _, burst, after, clause in traps:
-            line = f"burst {burst}, before turn {after + 1}, in c1 write 1 [51 x16, 52 x16]: by \"reply 0 -> done\" " \
+            line = f"burst {burst}, before instruction {after + 1}, in c1 write 1 [51 x16, 52 x16]: by \"reply 0 -> done\" " \
                    f"it would have {CLAUSES[clause]} (clause {clause})"
             self.assertIn(line, out)
-        self.assertIn("behind a guard, which stopped drivers 3 times", out)
+        self.assertIn("with a guard, which stopped drivers 3 times", out)
         self.assertIn("given up", out)
 
 
 # The lines about the guarded examples, worked out from their drivers: the stop, the call, and the deed.
 DEEDS = {
-    "stale-read": 'stopped by the guard at event 17, burst 6, before turn 90, in c4 read 2 1: by "reply 0 -> data [55 x16]" '
+    "stale-read": 'stopped by the guard at event 17, burst 6, before instruction 90, in c4 read 2 1: by "reply 0 -> data [55 x16]" '
     "it would have replied that a read is done, with other words than the disk's (clause 4)",
-    "sends-twice": 'stopped by the guard at event 17, burst 6, before turn 17, in c3 send [911, 7]: by "sent [911, 7]" '
+    "sends-twice": 'stopped by the guard at event 17, burst 6, before instruction 17, in c3 send [911, 7]: by "sent [911, 7]" '
     "it would have sent a second frame in one send (clause 6)",
-    "plays-on": 'stopped by the guard at event 16, burst 5, before turn 11, in c4 play [21, 22, 23]: by "played 0 8000 5" '
+    "plays-on": 'stopped by the guard at event 16, burst 5, before instruction 11, in c4 play [21, 22, 23]: by "played 0 8000 5" '
     "it would have played a sample that is not the next one of the play inside it (clause 10)",
 }
 
@@ -199,7 +199,7 @@ class Swept(unittest.TestCase):
             _, out, _ = bench("sweep", path, "--guard", "--quiet", "--burst", str(burst))
         missed = [entry["fault"]["after"] for entry in entries if entry["guarded"]["outcome"] == "did not strike"]
         self.assertEqual(missed, list(range(after + 1, len(entries))))
-        self.assertRegex(out, r"\nwithout, behind a guard: status 0, \d+ events, 1 failures, 0 gone, \d+ lost, 1 trap\n")
+        self.assertRegex(out, r"\nwithout, with a guard: status 0, \d+ events, 1 failures, 0 gone, \d+ lost, 1 trap\n")
 
     def test_the_table(self):
         words = [example_path("block.json"), "--limit", "1", "--call", "1", "--kind", "reg", "--register", "8", "--value", "2"]
@@ -207,8 +207,8 @@ class Swept(unittest.TestCase):
         self.assertEqual((status, err), (0, ""))
         lines = out.split("\n")
         broken = lines.index("    32  contract broken: clause 2: stored other words in a block than that write's")
-        self.assertEqual(lines[broken + 1], "        behind a guard: recovered, nothing lost: guard, clause 2")
-        self.assertEqual(lines.count("        behind a guard: the same"), 1)
+        self.assertEqual(lines[broken + 1], "        with a guard: recovered, nothing lost: guard, clause 2")
+        self.assertEqual(lines.count("        with a guard: the same"), 1)
         self.assertIn("      32  18.2 %               .  contract broken", lines)
         self.assertIn("               .      32  18.2 %  recovered, nothing lost", lines)
         self.assertIn("     144  81.8 %     144  81.8 %  struck, no trace", lines)
@@ -269,9 +269,9 @@ class Mapped(unittest.TestCase):
         words = drawn_words(out)
         for name in set(found["outcomes"]) | set(found["guarded"]) - {"contract broken"}:
             if name != "contract broken":
-                counts = f"({found['outcomes'].get(name, 0)}, behind a guard {found['guarded'].get(name, 0)})"
+                counts = f"({found['outcomes'].get(name, 0)}, with a guard {found['guarded'].get(name, 0)})"
                 self.assertIn(f"{name} {counts}", words)
-        self.assertEqual((words.count("without a guard"), words.count("behind a guard")), (1, 1))
+        self.assertEqual((words.count("without a guard"), words.count("with a guard")), (1, 1))
         with file_of(json.dumps(found)) as path:
             again = bench("map", "--from", path, "--quiet")[1]
         self.assertEqual(cells(again), cells(out))
@@ -341,8 +341,8 @@ class Whole(unittest.TestCase):
             members, given_up, broken = last[1], last[5], last[7]
             words = ["--limit", "16", *REGISTERS, "--quiet"] + (["--guard"] if guarded else [])
             _, out, _ = bench("sweep", example_path("sound.json"), *words)
-            line = next(line for line in out.split("\n") if "at every burst and turn" in line and line.startswith("behind") == guarded)
-            self.assertIn(f"{int(members):,} faults at every burst and turn, those of the shadow's bursts too: "
+            line = next(line for line in out.split("\n") if "at every burst and instruction" in line and line.startswith("with a guard") == guarded)
+            self.assertIn(f"{int(members):,} faults at every burst and instruction, those of the shadow's bursts too: "
                           f"{int(given_up):,} given up, {int(broken):,} broken", line)
             self.assertEqual("so no single fault of these" in out, guarded)
 

@@ -133,7 +133,7 @@ class Interrupted(unittest.TestCase):
             done = sum(len(json.loads(line)["outcomes"]) for line in lines_of(journal)[1:])
         self.assertRegex(out, rf"(?m)^ *{done}  faults drawn, of 100,000: interrupted$")
         self.assertRegex(out, r"(?m)^ *\d+  struck, no trace$")
-        self.assertEqual(err, f"nooks-bench: interrupted: {done:,} of 100,000 faults; the same with --resume goes on\n")
+        self.assertEqual(err, f"nooks-bench: interrupted: {done:,} of 100,000 faults; the same command with --resume continues it\n")
         self.assertEqual([each for each in processes() if each.group == process.pid and each.state != "Z"], [])
 
     def test_one_job(self):

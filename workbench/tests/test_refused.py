@@ -87,7 +87,7 @@ SENTENCES = [
     ("campaign-block.json", [(("base", *OP[:3]), [{"part": 0, "op": "get", "key": 1}] * 70)],
      "/base/threads: the threads have 70 operations together; a campaign's base has at most 64"),
     ("campaign-block.json", [(("base", "parts", 0, "faults"), [{"burst": 1, "after": 0, "kind": "trap"}] * 64)],
-     "/base/parts/0/faults: a part has at most 64 faults, and this one has 64 of its own, 1 of a member"),
+     "/base/parts/0/faults: a part has at most 64 faults, and this one has its own 64, 1 of a member"),
     ("campaign-block.json", [(("faults", 0), {"burst": 1, "after": 0, "kind": "trap", "value": 3})],
      '/faults/0: unknown key "value" of a fault of kind trap; expected an object with burst, after, kind'),
     ("campaign-block.json", [(("base", "version"), 1), (("base", "parts", 0, "bad"), [])],
@@ -114,9 +114,9 @@ NEWER_SENTENCES = [
     ("campaign-block.json", [*MEMBERS, (("members", 0), [])], "/members/0: the list is too short: 0 items; expected a list of 1 to 16 items"),
     ("campaign-block.json", [*MEMBERS, (("members", 1, 3, "kind"), "trp")], '/members/1/3/kind: unknown name "trp" (did you mean "trap"?)'),
     ("campaign-block.json", [*MEMBERS, (OWN_FAULTS, [TRAP] * 49)],
-     "/base/parts/0/faults: a part has at most 64 faults, and this one has 49 of its own, 16 of a member"),
+     "/base/parts/0/faults: a part has at most 64 faults, and this one has its own 49, 16 of a member"),
     ("campaign-block.json", [(("guard",), True), (("base", "parts", 0, "limit"), 9), (OWN_FAULTS, [TRAP] * 54)],
-     "/base/parts/0/faults: a part has at most 64 faults, and this one has 54 of its own, 1 of a member, up to 10 traps of a guard"),
+     "/base/parts/0/faults: a part has at most 64 faults, and this one has its own 54, 1 of a member, up to 10 traps of a guard"),
 ]
 if program().has_campaign_key("guard"):
     SENTENCES += NEWER_SENTENCES

@@ -51,7 +51,7 @@ class Timelines(unittest.TestCase):
             with open(path, encoding="utf-8") as file:
                 report = parse_report(file.read())
             failures = sum(event.failed for part in report.parts for event in part.bursts())
-            self.assertGreaterEqual(sum(": cut at event" in title or " trap " in title for title in titles), failures)
+            self.assertGreaterEqual(sum(": interrupted at event" in title or " trap " in title for title in titles), failures)
             self.assertIn("Timeline of", titles[0])
 
     def test_the_shadow_answers_in_a_recovery(self):

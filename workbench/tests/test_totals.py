@@ -67,7 +67,7 @@ class Shares(unittest.TestCase):
         words = [example_path("block.json"), "--limit", "1", "--quiet", "--call", "1"]
         _, out, _ = bench("sweep", *words, "--every", "4")
         self.assertRegex(out, r"(?m)^ +44  recovered, nothing lost  100\.0 %$")
-        self.assertRegex(out, r"(?m)^ +44  turns struck, of 176 in 1 burst$")
+        self.assertRegex(out, r"(?m)^ +44  instructions struck, of 176 in 1 burst$")
         drawn = [*words, "--random", "40", "--seed", "2", "--kind", "reg", "--kind", "trap"]
         _, out, _ = bench("sweep", *drawn)
         found = swept(*drawn)
@@ -118,7 +118,7 @@ class Lists(unittest.TestCase):
     def test_long_lists_are_shortened(self):
         self.assertEqual(after_text(list(range(176))), "0-175")
         drawn = parse_ranges("0-2,4,7-8,11,15,17,20-21,25,27,30,33,37-38,41,44,49,53,58")
-        self.assertEqual(after_text(drawn), f"0-58 ({len(drawn)} of these turns)")
+        self.assertEqual(after_text(drawn), f"0-58 ({len(drawn)} of these instructions)")
         self.assertEqual(starts_text([3, 4, 5, 9]), "3-5, 9")
         many = [start * start for start in range(40)]
         self.assertTrue(starts_text(many).endswith(", .. (40 of them)"), starts_text(many))

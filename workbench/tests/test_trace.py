@@ -107,7 +107,7 @@ class Traces(unittest.TestCase):
         self.assertIn("LI r13 3", changed)
         self.assertTrue(changed.endswith("<- overwritten: the text has LI r9 2 here"), changed)
         self.assertIn("0 to command (no command: nothing happens)", "\n".join(lines))
-        self.assertEqual(lines[-1], "fault 2: trap after 200 turns of burst 3 did not strike: burst 3 ended after 90 turns")
+        self.assertEqual(lines[-1], "fault 2: trap after 200 instructions of burst 3 did not strike: burst 3 ended after 90 instructions")
 
     def test_registers_follow_each_line(self):
         text = "trace 0 d burst 3 context 0 call 1\nstart 4 r2 7\nfault 0 reg 2 9\n1 4 MOV r1 r2 | r1 9\n2 5 OUT r1 0\nn2 pause\n"

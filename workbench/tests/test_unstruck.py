@@ -68,14 +68,14 @@ class Unstruck(unittest.TestCase):
             _, alone, _ = bench("explain", report_path)
         count = len(parse_report(report).parts[0].bursts())
         for line in [
-            "fault 0: trap after 90 turns of burst 5 did not strike: burst 5 ended after 2 turns",
-            "fault 1: reg r13 = 4 after 20 turns of burst 3 did not strike: fault 2, a trap after 9 turns, ended the burst before",
-            f"fault 3: trap after 0 turns of burst 99 did not strike: the run has no burst 99: disk has bursts 1 to {count}",
+            "fault 0: trap after 90 instructions of burst 5 did not strike: burst 5 ended after 2 instructions",
+            "fault 1: reg r13 = 4 after 20 instructions of burst 3 did not strike: fault 2, a trap after 9 instructions, ended the burst before",
+            f"fault 3: trap after 0 instructions of burst 99 did not strike: the run has no burst 99: disk has bursts 1 to {count}",
         ]:
             self.assertIn(line, explained)
             self.assertIn(line, text)
             self.assertIn(line, svg)
-        self.assertIn("fault 2: trap after 9 turns of burst 3 struck, event 8", explained)
+        self.assertIn("fault 2: trap after 9 instructions of burst 3 struck, event 8", explained)
         self.assertIn("faults ", text)
         self.assertNotIn("fault 1", alone)
 

@@ -1,4 +1,4 @@
--- Whether two outcomes are one can be told.
+-- Whether two outcomes are equal is decidable.
 use Rattle.std.proofs.Common.{◌≡◌, ◌⊎◌, inl, inr, ℕ, ◌==◌, if◌then◌else◌, true, false, Option, Some, None, List, [], ◌∷◌, refl, sym, ap, ap₂, ◌∙◌}
 use Rattle.std.proofs.lemmas.Bool.{cases_eq}
 use Rattle.explore_defs.specs.declared.outcome.Outcome.{Outcome}
@@ -10,18 +10,18 @@ use Rattle.nook_data.specs.declared.steps.Stage.TheVariants as stages
 
 -- ---- lists, pairs and options
 
--- of any two of its values it can be told whether they are one
-abbrev pub Tells : Type 0 → Type 0
-Tells A = (a b : A) → (a ≡ b) ⊎ (a ≡ b → ⊥)
+-- it is decidable whether two of its values are equal
+abbrev pub IsDecidable : Type 0 → Type 0
+IsDecidable A = (a b : A) → (a ≡ b) ⊎ (a ≡ b → ⊥)
 
--- values that can be read back from what they are written as
-by_code : {A B : Type 0} (code : A → B) (read : B → A) → ((a : A) → read (code a) ≡ a) → Tells B → Tells A
-by_code code read back tells a b = elim (tells (code a) (code b)) [
+-- values that can be decoded from their encoding
+by_code : {A B : Type 0} (code : A → B) (read : B → A) → ((a : A) → read (code a) ≡ a) → IsDecidable B → IsDecidable A
+by_code code read back reports a b = elim (reports (code a) (code b)) [
   | inl same ↦ inl (sym (back a) ∙ (ap read same ∙ back b))
   | inr other ↦ inr (λ e. other (ap code e))
 ]
 
-of_pair : {A B : Type 0} → Tells A → Tells B → Tells (A × B)
+of_pair : {A B : Type 0} → IsDecidable A → IsDecidable B → IsDecidable (A × B)
 of_pair first second a b = elim (first a.0 b.0) [
   | inr other ↦ inr (λ e. other (ap (λ p. p.0) e))
   | inl same ↦ elim (second a.1 b.1) [
@@ -30,31 +30,31 @@ of_pair first second a b = elim (first a.0 b.0) [
   ]
 ]
 
-of_option : {A : Type 0} → Tells A → Tells (Option A)
-of_option tells None None = inl refl
-of_option tells None (Some b) = inr (λ e. cc)
-of_option tells (Some a) None = inr (λ e. cc)
-of_option tells (Some a) (Some b) = elim (tells a b) [
+of_option : {A : Type 0} → IsDecidable A → IsDecidable (Option A)
+of_option reports None None = inl refl
+of_option reports None (Some b) = inr (λ e. cc)
+of_option reports (Some a) None = inr (λ e. cc)
+of_option reports (Some a) (Some b) = elim (reports a b) [
   | inl same ↦ inl (ap (λ x. Some x) same)
   | inr other ↦ inr (λ e. other (cc))
 ]
 
-of_list : {A : Type 0} → Tells A → Tells (List A)
-of_list tells [] [] = inl refl
-of_list tells [] (y ∷ ys) = inr (λ e. cc)
-of_list tells (x ∷ xs) [] = inr (λ e. cc)
-of_list tells (x ∷ xs) (y ∷ ys) = elim (tells x y) [
+of_list : {A : Type 0} → IsDecidable A → IsDecidable (List A)
+of_list reports [] [] = inl refl
+of_list reports [] (y ∷ ys) = inr (λ e. cc)
+of_list reports (x ∷ xs) [] = inr (λ e. cc)
+of_list reports (x ∷ xs) (y ∷ ys) = elim (reports x y) [
   | inr other ↦ inr (λ e. other (cc))
-  | inl same ↦ elim (of_list tells xs ys) [
+  | inl same ↦ elim (of_list reports xs ys) [
     | inl also ↦ inl (ap₂ (λ z zs. z ∷ zs) same also)
     | inr other ↦ inr (λ e. other (cc))
   ]
 ]
 
-of_words : Tells (List ℕ)
+of_words : IsDecidable (List ℕ)
 of_words = of_list cases_eq
 
--- ---- variants as words: a number for the variant, and then its fields
+-- ---- variants as words: a number for the variant, followed by its fields
 
 first_of : List ℕ → ℕ
 first_of [] = 0
@@ -216,7 +216,7 @@ losses_back : (n : Losses) → losses_read (losses_code n) ≡ n
 unfolding losses_code losses_read first_of rest_of
 losses_back n = refl
 
--- a part's outcome as what is left, what was counted and what was given
+-- a part's outcome as nested pairs of its fields
 abbrev PartFields : Type 0
 PartFields = (List (List ℕ) × List (List ℕ)) × ((List ℕ × Option ℕ) × (List (List ℕ) × List Act))
 
@@ -252,13 +252,13 @@ outcome_back : (o : Outcome) → outcome_read (outcome_code o) ≡ o
 unfolding outcome_code outcome_read
 outcome_back o = refl
 
-part_alike : Tells PartOutcome
+part_alike : IsDecidable PartOutcome
 part_alike =
     by_code part_code part_read part_back
     (of_pair (of_pair (of_list of_words) (of_list of_words))
     (of_pair (of_pair of_words (of_option cases_eq)) (of_pair (of_list of_words) (of_list (by_code act_code act_read act_back of_words)))))
 
-pub outcome_alike : Tells Outcome
+pub outcome_alike : IsDecidable Outcome
 outcome_alike =
     by_code outcome_code outcome_read outcome_back
     (of_pair (of_list (of_list (of_pair cases_eq (by_code answer_code answer_read answer_back of_words)))) (of_list part_alike))

@@ -1,4 +1,4 @@
--- An audit passes just the reports that a run by threads may write.
+-- An audit passes exactly the reports that a run by threads may write.
 use Rattle.std.proofs.Common.{◌≡◌, ℕ, Option, Some, None, List, [], ◌∷◌, map, refl, sym, ap, ◌∙◌, subst}
 use Rattle.audited_runs.proofs.Asked.{threaded_fits}
 use Rattle.audited_runs.proofs.Threaded.{fitting_is_threaded}
@@ -18,10 +18,10 @@ use Rattle.nooks.proofs.Safety.{all_safe}
 use Rattle.nooks.specs.Answers.{IsReported}
 use Rattle.nooks.specs.declared.program.Status.{Status}
 use Rattle.order_defs.specs.OneClock.{AreOneRun}
-use Rattle.order_defs.specs.OutOfOrder.{Finds, FindsBehind}
+use Rattle.order_defs.specs.OutOfOrder.{Finds, FindsAfter}
 use Rattle.order_laws.proofs.OutOfOrder.{in_order_one_run, one_run_none_out}
 use Rattle.report_defs.specs.ReportText.{report_text, status_of}
-use Rattle.run_ends.specs.Journals.{AreRuns}
+use Rattle.run_results.specs.Journals.{AreRuns}
 use Rattle.run_laws.proofs.Passing.{report_fits}
 use Rattle.run_laws.specs.Audit.{answers_in_order, audited, own_listeners}
 use Rattle.run_laws.specs.Fitting.{AllFit, fitting_text, sections_of}
@@ -44,7 +44,7 @@ fitting_reported scenario report journals valid fit one is =
           answers = answers;
           taps = map (λ l. tap_result l (in_parts 0 journals)) own_listeners;
         };
-        run = record { threaded = threaded; told = refl };
+        run = record { threaded = threaded; printed = refl };
         whole = record {
           safe = all_safe scenario journals valid runs;
           answered = threaded_answered scenario journals answers threaded;
@@ -54,7 +54,7 @@ fitting_reported scenario report journals valid fit one is =
       },
     )
 
-found_none : (scenario : Scenario) (report : List ℕ) (first : Option ℕ) → IsValidScenario scenario → FindsBehind scenario report first None
+found_none : (scenario : Scenario) (report : List ℕ) (first : Option ℕ) → IsValidScenario scenario → FindsAfter scenario report first None
     → (status : Status) × IsReported form.RunThreads scenario own_listeners report status
 found_none scenario report None valid found =
     fitting_reported scenario report found.journals valid found.fit (in_order_one_run scenario found.journals valid found.fit found.out_of_order) found.text_is
@@ -79,10 +79,10 @@ report_passes scenario report status valid r =
     threaded_fits scenario r.left.journals r.left.answers valid runs r.run.threaded in
     let text : report ≡ fitting_text scenario r.left.journals =
     r.text_is
-    ∙ (ap (λ taps. report_text scenario r.left.journals r.left.answers taps (status_of scenario.parts r.left.journals)) r.run.told
+    ∙ (ap (λ taps. report_text scenario r.left.journals r.left.answers taps (status_of scenario.parts r.left.journals)) r.run.printed
     ∙ sym (threaded_text scenario r.left.journals r.left.answers valid runs r.run.threaded)) in
     let fits : audited scenario report ≡ None = ap (audited scenario) text ∙ report_fits scenario r.left.journals valid fit in
-    subst (λ (first : Option ℕ). FindsBehind scenario report first None) (sym fits) (record {
+    subst (λ (first : Option ℕ). FindsAfter scenario report first None) (sym fits) (record {
       journals = r.left.journals;
       fit = fit;
       text_is = text;

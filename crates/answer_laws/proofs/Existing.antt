@@ -1,4 +1,4 @@
--- What waits for nobody has an answer.
+-- Every subcommand that never waits has an answer.
 use Rattle.std.proofs.Common.{◌≡◌, ℕ, ◌≤◌, nat_lt, Bool, true, false, List, [], ◌++◌, ◌⊎◌, inl, inr, All, is_some, length, map, IfOk, Option, Some, None, Result, Ok, Err, refl, sym, subst, true≢false}
 use Rattle.std.proofs.lemmas.Bool.{ltb-false, ltb-true}
 use Rattle.answer_laws.proofs.Explorable.{exploration_exists}
@@ -74,7 +74,7 @@ left_by scenario hearing s run = record {
 scheduled_by : (scenario : Scenario) (hearing : List Listening) (s : Simulation) (run : IsScheduledRun scenario s)
     → IsScheduled scenario hearing (left_by scenario hearing s run)
 scheduled_by scenario hearing s run =
-    record { simulation = s; scheduled = run; same_journals = refl; same_answers = refl; told = refl }
+    record { simulation = s; scheduled = run; same_journals = refl; same_answers = refl; printed = refl }
 
 whole_by : (scenario : Scenario) (hearing : List Listening) (s : Simulation) (run : IsScheduledRun scenario s) → IsValidScenario scenario
     → IsWhole scenario (left_by scenario hearing s run)
@@ -263,8 +263,8 @@ guarded_exists guarded bytes hearing (Err refusal) is =
 
 -- ---- every order of the steps
 
-exploration_told : (scenario : Scenario) (text : List ℕ) (number : ℕ) → IsExplored scenario text number → HasAnswer (IsExploration scenario)
-exploration_told scenario text number explored =
+exploration_reported : (scenario : Scenario) (text : List ℕ) (number : ℕ) → IsExplored scenario text number → HasAnswer (IsExploration scenario)
+exploration_reported scenario text number explored =
     let status = status_exists (is_some explored.cut) (all_numbers scenario explored.firsts) in (
       text,
       (
@@ -279,8 +279,8 @@ explore_exists : (bytes : List ℕ) (hearing : List Listening) (r : Result Scena
 explore_exists bytes hearing (Ok scenario) is valid =
     let there = exploration_exists scenario valid in
     answer_by (IsExploration scenario) (AnswersInput form.Explore (Whole bytes) hearing)
-    (λ text status told. inr (record { scenario = scenario; reading = is; exploration = told }))
-    (exploration_told scenario there.0 there.1.0 there.1.1)
+    (λ text status printed. inr (record { scenario = scenario; reading = is; exploration = printed }))
+    (exploration_reported scenario there.0 there.1.0 there.1.1)
 explore_exists bytes hearing (Err refusal) is valid =
     refused_by form.Explore bytes hearing Scenario (scenario_from bytes) refusal is (λ text line. line)
 
@@ -356,7 +356,7 @@ audit_exists bytes hearing = by_handed (hands_or_not bytes)
     by_handed (inl h) = by_length bytes h.0 h.1.0 hearing (nat_lt (limit_of form.Run) (length h.0)) h.1.1 refl
     by_handed (inr none) = (bad_header_text, (ended.BadInput, inl (inl (none, refl), refl)))
 
--- ---- forms
+-- ---- subcommands
 
 input_exists : AllGuarded → (asked : Form) (input : Input) (hearing : List Listening) → is_alone asked ≡ true → is_reading asked ≡ true
     → HasAnswer (AnswersInput asked input hearing)

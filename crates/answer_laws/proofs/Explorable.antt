@@ -19,13 +19,13 @@ use Rattle.nook_data.specs.declared.scenario.Scenario.{Scenario}
 use Rattle.order_search.proofs.FirstEnds.{ends_more, ends_none, ends_same, ends_then}
 use Rattle.order_search.proofs.Rising.{AreLong, after_shorter, contains_cases, contains_head, contains_tail, none_contained, rise_append, rise_rest}
 use Rattle.order_search.proofs.Rising.{way_contained, ways_contain, ways_long, ways_rise}
-use Rattle.order_search.specs.Ends.{AreFirstEnds, HasOutcome, StandForEnds, TakesEnds, end_from}
+use Rattle.order_search.specs.Ends.{AreFirstEnds, HasOutcome, CoverEnds, TakesEnds, end_from}
 use Rattle.order_search.specs.Ways.{all_ways}
 use Rattle.order_search.specs.declared.ends.FirstEnd.{FirstEnd}
-use Rattle.part_laws.proofs.Places.{from_map}
+use Rattle.part_laws.proofs.Indices.{from_map}
 use Rattle.run_defs.specs.Simulation.{Choice, begins, choices_of}
 
--- ---- every way on, level by level
+-- ---- all continuations, level by level
 
 -- the levels after a first one
 levels : ℕ → List Held → List (List Held)
@@ -48,7 +48,7 @@ unfolding levels last_level AreHeldLevels
 are_levels zero held none = λ h way within. none_contained way.from (subst (λ (xs : List Held). Contains xs way.from) none way.is_held)
 are_levels (suc n) held none = (joined held, are_levels n (all_ways held) none)
 
--- their picks rise
+-- their picks increase
 levels_rise : (n steps : ℕ) (before held : List Held) → DoRise (before ++ held) → AreLong steps held
     → All (λ (h : Held). length h.picks ≤ steps) before → DoRise (before ++ all_levels (held ∷ levels n held))
 unfolding levels
@@ -74,7 +74,7 @@ levels_rise (suc n) steps before held rise long short =
 -- ---- there is a last level
 
 module _ (scenario : Scenario) where
-  -- what is held is of a run of that many steps
+  -- a state that is held belongs to a run of this number of steps
   record IsReal (steps : ℕ) (h : Held) : Type 0 where
     path : Path
     level : IsOfLevel scenario steps path
@@ -185,8 +185,8 @@ none_ended = record {
 first_ends : (helds : List Held) → DoRise helds → (firsts : List Held) × AreFirstEnds helds firsts
 first_ends helds rise =
     let taken = ends_taken helds [] in
-    let stand : StandForEnds helds taken.0 = taken.1.ends [] rise (record { firsts = []; same = refl; are = none_ended }) in
-    (stand.firsts, stand.are)
+    let cover : CoverEnds helds taken.0 = taken.1.ends [] rise (record { firsts = []; same = refl; are = none_ended }) in
+    (cover.firsts, cover.are)
 
 first_held : (helds firsts : List Held) → AreFirstEnds helds firsts → AreFirstHeld None helds firsts
 first_held helds firsts e = record {
@@ -219,7 +219,7 @@ rows_exist scenario valid = by_steps (2 ^ 26) (omega arith)
           held_rows scenario None (levels n first) ends.0 (are_levels n first (none_last scenario valid n late)) (first_held all ends.0 ends.1),
         )
 
--- a scenario has an exploration in which no state is held: how many are is left to the program
+-- a scenario has an exploration in which no state is held: the program decides how many it holds
 pub exploration_exists : (scenario : Scenario) → IsValidScenario scenario
     → (text : List ℕ) × ((status : ℕ) × IsExplored scenario text status)
 unfolding AreRising

@@ -1,4 +1,4 @@
--- Every scenario whose parts have room for their traps can be guarded: its first trap is found, or there is none.
+-- Every scenario whose parts have room for their traps can be guarded: its first trap is found, or it has none.
 use Rattle.std.proofs.Common.{◌≡◌, ◌⊎◌, ◌≤◌, inl, inr, ℕ, zero, suc, ◌+◌, ◌^◌, Option, Some, None, List, [], ◌∷◌, ◌++◌, All, option_map, slice_get, refl, sym, ap, subst, ◌∙◌, arith}
 use Rattle.nook_data.proofs.Options.{none_is_some}
 use Rattle.nook_data.specs.Members.{struck}
@@ -29,7 +29,7 @@ use Rattle.run_defs.specs.Schedules.{Order}
 use Rattle.run_defs.specs.Simulation.{Choice, RunningPart, Simulation, begins, choices_of, runs, stepped_by, taken}
 use Rattle.sim_run.proofs.Ending.{ends_by}
 
--- ---- one step under the guard, where it puts no trap
+-- ---- one step under the guard that puts no trap
 
 one_by : (t : Simulation) (o : Option Choice) → pick_of t (choices_of t) ≡ o
     → ((order : Order) → guarded_by t order o ≡ taken_by t order o) → guarded_runs (suc zero) t ≡ runs (suc zero) t
@@ -58,7 +58,7 @@ part_alike t c x at same order =
     ∙ ap (stepped_by t order c) same
     ∙ ap (stepped_by t order c) (sym at)
 
--- ---- up to so many steps the guard puts no trap, or its first one is found
+-- ---- the guard puts no trap in a number of steps, or its first one is found
 
 abbrev IsFree : Scenario → ℕ → Type 0
 IsFree scenario n = guarded_runs n (begins scenario) ≡ runs n (begins scenario)
@@ -102,7 +102,7 @@ first_at scenario n c seat f free picks at trap = by_step c.step refl trap
             };
             part = refl;
             trap = refl;
-            clause = wrong.told;
+            clause = wrong.reported;
           },
         )
 

@@ -1,4 +1,4 @@
--- What waits for nobody has at most one answer, except `explore`.
+-- Every subcommand that never waits has at most one answer, except `explore`.
 use Rattle.std.proofs.Common.{◌≡◌, ℕ, ◌==◌, ◌<◌, ◌≤◌, if◌then◌else◌, true, List, [], ◌∷◌, ◌++◌, ◌⊎◌, inl, inr, length, map, Option, Some, None, Result, Ok, Err, IfOk, refl, sym, ap, ◌∙◌, subst, true≢false, arith}
 use Rattle.std.specs.List.{AllZip}
 use Rattle.asm_defs.specs.Disassembler.{disassembled}
@@ -74,21 +74,21 @@ refusal_once r text other a b = a.text_is ∙ (ap fault_line (err_once r a.refus
 abbrev status_by : ℕ → Status
 status_by number = if number == 0 then ended.Done else if number == 1 then ended.GivenUp else ended.ContractBroken
 
-told_status : (number : ℕ) (status : Status) → IsReportStatus number status → status ≡ status_by number
-told_status number ended.Done is = rw is refl
-told_status number ended.GivenUp is = rw is refl
-told_status number ended.Usage is = absurd is
-told_status number ended.BadInput is = absurd is
-told_status number ended.ReadFault is = absurd is
-told_status number ended.WriteFault is = absurd is
-told_status number ended.NoMemory is = absurd is
-told_status number ended.ContractBroken is = rw is refl
-told_status number ended.AuditNo is = absurd is
-told_status number ended.Cut is = absurd is
+reported_status : (number : ℕ) (status : Status) → IsReportStatus number status → status ≡ status_by number
+reported_status number ended.Done is = rw is refl
+reported_status number ended.GivenUp is = rw is refl
+reported_status number ended.Usage is = absurd is
+reported_status number ended.BadInput is = absurd is
+reported_status number ended.ReadFault is = absurd is
+reported_status number ended.WriteFault is = absurd is
+reported_status number ended.NoMemory is = absurd is
+reported_status number ended.ContractBroken is = rw is refl
+reported_status number ended.AuditNo is = absurd is
+reported_status number ended.Cut is = absurd is
 
 -- ---- runs
 
--- what a listener counts of a run that is not stopped is what it counts of its journals
+-- what a listener counts in a run that is not stopped is what it counts in its journals
 counted : (scenario : Scenario) (s : Simulation) (run : IsScheduledRun scenario s) (l : Listening)
     → heard_events l (published run.steps (begins scenario)) ≡ heard_in_journals l 0 (journals_of s)
 counted scenario s run l =
@@ -115,13 +115,13 @@ answers_once scenario hearing x y a b =
 
 totals_once : (scenario : Scenario) (hearing : List Listening) (x y : Left) → IsScheduled scenario hearing x → IsScheduled scenario hearing y
     → x.taps ≡ y.taps
-totals_once scenario hearing x y a b = a.told ∙ (taps_once scenario hearing a.simulation b.simulation a.scheduled b.scheduled ∙ sym b.told)
+totals_once scenario hearing x y a b = a.printed ∙ (taps_once scenario hearing a.simulation b.simulation a.scheduled b.scheduled ∙ sym b.printed)
 
 statuses_once : (parts : List PartSpec) (xs ys : List (List Event)) (status end : Status) → xs ≡ ys → IsReportStatus (status_of parts xs) status
     → IsReportStatus (status_of parts ys) end → status ≡ end
 statuses_once parts xs ys status end e a b =
-    told_status (status_of parts xs) status a
-    ∙ (ap (λ js. status_by (status_of parts js)) e ∙ sym (told_status (status_of parts ys) end b))
+    reported_status (status_of parts xs) status a
+    ∙ (ap (λ js. status_by (status_of parts js)) e ∙ sym (reported_status (status_of parts ys) end b))
 
 texts_same : (scenario : Scenario) (x y : Left) → x.journals ≡ y.journals → x.answers ≡ y.answers → x.taps ≡ y.taps
     → report_text scenario x.journals x.answers x.taps (status_of scenario.parts x.journals)
@@ -171,15 +171,15 @@ guard_report_once scenario hearing text other status end a b =
           ∙ (ap (λ ls. guard_lines ls
           ++ report_text a.guarded a.left.journals a.left.answers a.left.taps (status_of a.guarded.parts a.left.journals)) stops
           ∙ (ap (λ t. guard_lines b.stops ++ t) same.0 ∙ sym b.text_is)),
-      told_status (status_of a.guarded.parts a.left.journals) status a.status_is
-          ∙ (ap status_by same.1 ∙ sym (told_status (status_of b.guarded.parts b.left.journals) end b.status_is)),
+      reported_status (status_of a.guarded.parts a.left.journals) status a.status_is
+          ∙ (ap status_by same.1 ∙ sym (reported_status (status_of b.guarded.parts b.left.journals) end b.status_is)),
     )
 
 guarded_line_once : (scenario : Scenario) (text other : List ℕ) → IsGuardedLine scenario text → IsGuardedLine scenario other → text ≡ other
 guarded_line_once scenario text other a b =
     a.text_is ∙ (ap scenario_line (guarded_once scenario a.guarded b.guarded a.is_guarded b.is_guarded) ∙ sym b.text_is)
 
--- ---- each form
+-- ---- each subcommand
 
 report_once : (bytes : List ℕ) (hearing : List Listening) (text other : List ℕ) (status end : Status)
     → IsReportOf form.Run bytes hearing text status → IsReportOf form.Run bytes hearing other end → (text ≡ other) × (status ≡ end)
@@ -267,7 +267,7 @@ guarded_scenario_once bytes text other a b =
     let same = ok_once (guardable_from bytes) a.scenario b.scenario a.reading b.reading in
     guarded_line_once b.scenario text other (subst (λ s. IsGuardedLine s text) same a.line) b.line
 
--- ---- faults
+-- ---- input errors
 
 scenario_fault_once : (handed text other : List ℕ) → IsScenarioFault handed text → IsScenarioFault handed other → text ≡ other
 scenario_fault_once handed text other (inl a) (inl b) = a.1 ∙ sym b.1
@@ -310,7 +310,7 @@ trace_has_no_fault bytes part burst text other a (inr b) =
 
 -- ---- answers
 
--- of an answer that is a fault's line or what a form does
+-- an answer is the line of an input error, or what a subcommand does
 module _ (Faulty : List ℕ → Type 0) (Doing : List ℕ → Status → Type 0)
     (faults : (text other : List ℕ) → Faulty text → Faulty other → text ≡ other)
     (does : (text other : List ℕ) (status end : Status) → Doing text status → Doing other end → (text ≡ other) × (status ≡ end))
@@ -322,7 +322,7 @@ module _ (Faulty : List ℕ → Type 0) (Doing : List ℕ → Status → Type 0)
   either_once text other status end (inr a) (inl b) = absurd (apart text other status a b.0)
   either_once text other status end (inr a) (inr b) = does text other status end a b
 
--- what ends as done
+-- an answer that ends as done
 done_once : (Does : List ℕ → Type 0) → ((text other : List ℕ) → Does text → Does other → text ≡ other)
     → (text other : List ℕ) (status end : Status) → Does text × (status ≡ ended.Done) → Does other × (end ≡ ended.Done)
     → (text ≡ other) × (status ≡ end)
@@ -417,7 +417,7 @@ pub words_once : (words : List (List ℕ)) (hearing : List Listening) (bytes tex
 words_once words hearing bytes text other status end one_only a b =
     asked_once words a.asked b.asked hearing bytes text other status end one_only a.asks b.asks a.answer b.answer
 
--- what waits for nobody has one answer, except `explore`
+-- every subcommand that never waits has one answer, except `explore`
 pub one_if_alone : (asked : Form) → is_alone asked ≡ true → (asked ≡ form.Explore → ⊥) → has_one_answer asked ≡ true
 one_if_alone form.Run alone other = refl
 one_if_alone form.RunThreads alone other = absurd (true≢false (sym alone))

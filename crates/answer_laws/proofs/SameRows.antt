@@ -15,7 +15,7 @@ use Rattle.nooks.specs.Streams.{Input, TooLong, Whole}
 use Rattle.nooks.specs.declared.program.Status.{Status}
 use Rattle.nooks.specs.declared.program.Status.TheVariants as ended
 
--- ---- of all orders
+-- ---- explorations of all orders
 
 pub whole_alike : (scenario : Scenario) (text other : List ℕ) (status end : ℕ) (one : IsExplored scenario text status)
     (two : IsExplored scenario other end) → one.cut ≡ None → two.cut ≡ None → HaveSameRows text other × (status ≡ end)
@@ -41,21 +41,21 @@ whole_alike scenario text other status end one two whole also =
 
 -- ---- by the status
 
--- the status of all orders, by its number
+-- the status of an exploration of all orders, by its number
 abbrev status_by : ℕ → Status
 status_by number = if number == 0 then ended.Done else ended.GivenUp
 
-told : (number : ℕ) (status : Status) → HasFollowedAll status → IsExploredStatus number status → (number < 7) × (status ≡ status_by number)
-told number ended.Done followed is = (omega (arith, is), rw is refl)
-told number ended.GivenUp followed is = (omega (arith, is), rw is refl)
-told number ended.Usage followed is = absurd followed
-told number ended.BadInput followed is = absurd followed
-told number ended.ReadFault followed is = absurd followed
-told number ended.WriteFault followed is = absurd followed
-told number ended.NoMemory followed is = absurd followed
-told number ended.ContractBroken followed is = absurd followed
-told number ended.AuditNo followed is = absurd followed
-told number ended.Cut followed is = absurd followed
+printed : (number : ℕ) (status : Status) → HasFollowedAll status → IsExploredStatus number status → (number < 7) × (status ≡ status_by number)
+printed number ended.Done followed is = (omega (arith, is), rw is refl)
+printed number ended.GivenUp followed is = (omega (arith, is), rw is refl)
+printed number ended.Usage followed is = absurd followed
+printed number ended.BadInput followed is = absurd followed
+printed number ended.ReadFault followed is = absurd followed
+printed number ended.WriteFault followed is = absurd followed
+printed number ended.NoMemory followed is = absurd followed
+printed number ended.ContractBroken followed is = absurd followed
+printed number ended.AuditNo followed is = absurd followed
+printed number ended.Cut followed is = absurd followed
 
 not_cut : (broken is_cut given_up : Bool) → (if broken then 7 else if is_cut then CUT_STATUS else if given_up then 1 else 0) < 7 → is_cut ≡ false
 not_cut true is_cut given_up low = absurd (omega (arith, low))
@@ -75,8 +75,8 @@ whole_by scenario text number one low =
 explorations_alike : (scenario : Scenario) (text other : List ℕ) (status end : Status) → HasFollowedAll status → HasFollowedAll end
     → IsExploration scenario text status → IsExploration scenario other end → HaveSameRows text other × (status ≡ end)
 explorations_alike scenario text other status end followed also a b =
-    let x = told a.number status followed a.status_is in
-    let y = told b.number end also b.status_is in
+    let x = printed a.number status followed a.status_is in
+    let y = printed b.number end also b.status_is in
     let same = whole_alike scenario text other a.number b.number a.explored b.explored (whole_by scenario text a.number a.explored x.0)
     (whole_by scenario other b.number b.explored y.0) in
     (same.0, x.1 ∙ (ap status_by same.1 ∙ sym y.1))

@@ -4,9 +4,9 @@ use Rattle.nook_data.specs.Types.{MemberRow}
 use Rattle.nooks.specs.declared.program.Status.{Status}
 use Rattle.nooks.specs.declared.program.Status.TheVariants as ended
 
--- Answers of `explore` that differ in the number of states alone.
+-- Answers of `explore` that differ only in the number of states.
 
--- two texts have these rows, and a last line of all orders that counts them
+-- two texts have these rows, and a last line that counts them and says that all orders were followed
 pub record HaveSameRows (text other : List ℕ) : Type 0 where
   pub rows : List ℕ
   pub numbers : List MemberRow
@@ -15,7 +15,7 @@ pub record HaveSameRows (text other : List ℕ) : Type 0 where
   pub text_is : text ≡ rows ++ explored_line false states numbers
   pub other_is : other ≡ rows ++ explored_line false others numbers
 
--- a status that tells that every order was followed, and that none breaks a contract
+-- a status that says that every order was followed and none breaks a contract
 abbrev pub HasFollowedAll : Status → Type 0
 HasFollowedAll ended.Done = ⊤
 HasFollowedAll ended.GivenUp = ⊤

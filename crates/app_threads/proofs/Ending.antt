@@ -1,4 +1,4 @@
--- From how each worker ended to how all ended.
+-- How all workers end, from how each of them ended.
 use Rattle.std.proofs.Common.{◌≡◌, ◌⊎◌, ℕ, zero, suc, ◌+◌, ◌<◌, ◌≤◌, None, Some, List, [], ◌∷◌, ◌++◌, map, take, length, get_or, slice_get, subst, sym, refl, ap, ◌∙◌, inl, inr, arith, append_assoc, append-nil, length-append, length-take-le}
 use Rattle.std.specs.Prelude.{All, slice_index_or, Result, Ok, Err}
 use Rattle.std.proofs.lemmas.List.{length-map}
@@ -16,7 +16,7 @@ use Rattle.nook_data.specs.declared.steps.Event.{Event}
 use Rattle.nook_data.specs.declared.steps.Event.TheVariants as event
 use Rattle.nook_data.specs.Answers.{answer_at}
 use Rattle.part_laws.proofs.CallNumbers.{InvokesBy}
-use Rattle.app_threads.proofs.OpenCalls.{at_place, open_law}
+use Rattle.app_threads.proofs.OpenCalls.{at_position, open_law}
 use Rattle.app_threads.specs.declared.stop.WorkerStop.{WorkerStop}
 use Rattle.app_threads.specs.declared.stop.WorkerStop.TheVariants as stop
 use Rattle.app_threads.specs.declared.work.Work.{Work}
@@ -37,9 +37,9 @@ use Rattle.app_threads.proofs.Scripts.{SeesMore, all_by_grow, at_desks_both, at_
 use Rattle.app_threads.proofs.Splitting.{accounts_twice, clocked_twice}
 use Rattle.app_threads.proofs.Stamped.{follows_grow, rows_follow}
 use Rattle.app_threads.proofs.Starting.{gains_same, start_same, start_view, work_same}
-use Rattle.app_threads.proofs.WorkPlaces.{calls_are, calls_by, calls_by_are, calls_in, arrivals_are, arrivals_before, arrivals_behind, arrivals_there, behind_scripts, frames_are, invokes_are, script_is, script_there, works_frames, works_invokes, works_long}
+use Rattle.app_threads.proofs.WorkIndices.{calls_are, calls_by, calls_by_are, calls_in, arrivals_are, arrivals_before, arrivals_after, arrivals_there, after_scripts, frames_are, invokes_are, script_is, script_there, works_frames, works_invokes, works_long}
 
--- ---- seats that were taken in
+-- ---- seats into which others were joined
 
 takes_each : (R : ℕ → DeskView → DeskView → Type 0) (specs : List PartSpec) (olds others news : List DeskView)
     → ((d : ℕ) (spec : PartSpec) (v o w : DeskView) → slice_get specs d ≡ Some spec → slice_get others d ≡ Some o → TakesInOne spec v o w → R d v w) → TakesIn specs olds others news → AtDesks R olds news
@@ -52,17 +52,17 @@ takes_each R specs olds others news f t = (
       f d s.0 v o.0 w s.1 o.1 (t.3 d s.0 v o.0 w s.1 i o.1 j),
 )
 
--- seats that took others in have their accounts
+-- seats into which others were joined have their accounts
 pub accounts_joined : (specs : List PartSpec) (olds mids others news : List DeskView) → KeepAccounts olds mids → TakesIn specs mids others news → KeepAccounts olds news
 accounts_joined specs olds mids others news h t =
     accounts_twice olds mids news h (takes_each (λ d v w. KeepsAccounts v w) specs mids others news (λ d spec v o w a b k. record { still = λ a. k.2 }) t)
 
--- seats that took others in have their events stamped
+-- seats into which others were joined have their events stamped
 pub clocked_joined : (specs : List PartSpec) (olds mids others news : List DeskView) → KeepClocked olds mids → TakesIn specs mids others news → KeepClocked olds news
 clocked_joined specs olds mids others news h t =
     clocked_twice olds mids news h (takes_each (λ d v w. KeepsClocked v w) specs mids others news (λ d spec v o w a b k. record { still = λ a. k.3 }) t)
 
--- what a seat that took another in has of both
+-- what a seat keeps, and what it gets from a seat that is joined into it
 module _ (R : ℕ → DeskView → DeskView → Type 0) (stays : (d : ℕ) (v : DeskView) → R d v v) (goes : (d : ℕ) (u v w : DeskView) → R d u v → R d v w → R d u w)
     (own : (d : ℕ) (spec : PartSpec) (v o w : DeskView) → TakesInOne spec v o w → R d v w) (other : (d : ℕ) (spec : PartSpec) (v o w : DeskView) → TakesInOne spec v o w → R d o w) where
   own_each : (specs : List PartSpec) (olds others news : List DeskView) → TakesIn specs olds others news → AtDesks R olds news
@@ -114,7 +114,7 @@ all_runs specs olds (others ∷ (next ∷ workers)) news t l = all_runs specs t.
 -- ---- all that workers did
 
 module _ (specs : List PartSpec) (scripts : List ThreadSpec) (arrivals : List (List (List ℕ))) (starts : List DeskView) where
-  -- each worker ended so
+  -- each worker ended in this way
   abbrev pub AllEnded : List Work → List (List DeskView) → List (Result (List Receipt) WorkerStop) → Type 0
   AllEnded [] [] [] = Unit {0}
   AllEnded (k ∷ works) (o ∷ others) (e ∷ ends) = WorkEnds specs scripts arrivals starts k o e × AllEnded works others ends
@@ -144,7 +144,7 @@ module _ (specs : List PartSpec) (scripts : List ThreadSpec) (arrivals : List (L
   abbrev WorkGrew : Work → ℕ → DeskView → DeskView → Type 0
   WorkGrew k d v w = GrewBy (thread_of k) (count_on d (ops_for scripts k)) (length (frames_for d arrivals k)) v w
 
-  -- a worker gained at most what its work is
+  -- a worker gained no more than its work asks for
   work_grew : (k : Work) (o : List DeskView) (e : Result (List Receipt) WorkerStop) → WorkEnds specs scripts arrivals starts k o e
       → AtDesks (λ d v w. GainsAtMost v w (count_on d (ops_for scripts k)) (length (frames_for d arrivals k))) starts o
   work_grew k o (Ok row) h =
@@ -152,17 +152,17 @@ module _ (specs : List PartSpec) (scripts : List ThreadSpec) (arrivals : List (L
       (λ d v w x.
       at_most_weaker v w (length (invokes_of d (ops_for scripts k) row)) (count_on d (ops_for scripts k)) (length (frames_for d arrivals k)) (length (frames_for d arrivals k)) (invokes_few d (ops_for scripts k) row) (omega arith)
       (gains_at_most v w (invokes_of d (ops_for scripts k) row) (frames_for d arrivals k) x.gains)) h.1
-  work_grew k o (Err (stop.Refused thread place part refusal)) h = at_desks_weaker (WorkGrew k) (λ d v w. GainsAtMost v w (count_on d (ops_for scripts k)) (length (frames_for d arrivals k))) starts o (λ d v w x. x.0) h.0
+  work_grew k o (Err (stop.Refused thread index part refusal)) h = at_desks_weaker (WorkGrew k) (λ d v w. GainsAtMost v w (count_on d (ops_for scripts k)) (length (frames_for d arrivals k))) starts o (λ d v w x. x.0) h.0
   work_grew k o (Err stop.NoMemory) h = at_desks_weaker (WorkGrew k) (λ d v w. GainsAtMost v w (count_on d (ops_for scripts k)) (length (frames_for d arrivals k))) starts o (λ d v w x. x.0) h
 
-  -- whatever a worker answers, what it invoked was invoked by its thread
+  -- whatever a worker's result, only its own thread invoked what it invoked
   pub work_made : (k : Work) (o : List DeskView) (e : Result (List Receipt) WorkerStop) → WorkEnds specs scripts arrivals starts k o e → AtDesks (λ d v w. MadeBy (thread_of k) v w) starts o
   work_made k o (Ok row) h = h.2
-  work_made k o (Err (stop.Refused thread place part refusal)) h = at_desks_weaker (WorkGrew k) (λ d v w. MadeBy (thread_of k) v w) starts o (λ d v w x. x.1) h.0
+  work_made k o (Err (stop.Refused thread index part refusal)) h = at_desks_weaker (WorkGrew k) (λ d v w. MadeBy (thread_of k) v w) starts o (λ d v w x. x.1) h.0
   work_made k o (Err stop.NoMemory) h = at_desks_weaker (WorkGrew k) (λ d v w. MadeBy (thread_of k) v w) starts o (λ d v w x. x.1) h
 
   module _ (none : (d : ℕ) (s : DeskView) → slice_get starts d ≡ Some s → s.made ≡ []) where
-    -- what was done at a worker's seat comes to the seat that takes it in
+    -- what was done at a worker's seat goes to the seat into which it is joined
     take_with : (P R : ℕ → DeskView → DeskView → Type 0) (olds others news : List DeskView)
         → ((d : ℕ) (s o v w : DeskView) → s.made ≡ [] → (spec : PartSpec) → TakesInOne spec v o w → P d s o → R d v w) → AtDesks P starts others → TakesIn specs olds others news → AtDesks R olds news
     take_with P R olds others news f h t =
@@ -213,13 +213,13 @@ module _ (specs : List PartSpec) (scripts : List ThreadSpec) (arrivals : List (L
         (λ d s p v w m spec k g. joins_gains s p v w (invokes_of d (ops_for scripts x) row) (frames_for d arrivals x) m k.0 g.gains) h.0.1 t.1)
         (all_gain works others rows t.0 news h.1 t.2)
 
--- where no worker invoked a call, it is at none of the places that a seat gained
+-- if no worker invoked a call, none of the events that a seat gained invokes it
 not_own : (specs : List PartSpec) (part call : ℕ) (olds : List DeskView) (workers : List (List DeskView)) (news : List DeskView) (v w : DeskView) → TakeAllIn specs olds workers news
-    → ((i : ℕ) (o : List DeskView) (x : DeskView) → slice_get workers i ≡ Some o → slice_get o part ≡ Some x → All (λ place. IsAt x.seen place (IsNoInvoke call)) x.made)
+    → ((i : ℕ) (o : List DeskView) (x : DeskView) → slice_get workers i ≡ Some o → slice_get o part ≡ Some x → All (λ index. IsAt x.seen index (IsNoInvoke call)) x.made)
     → slice_get olds part ≡ Some v → slice_get news part ≡ Some w → IsNotOwn call v w
 not_own specs part call olds [] news v w t f a b =
     let is : v ≡ w = same_at olds part v w a (subst (λ (l : List DeskView). slice_get l part ≡ Some w) t b) in
-    ([], ap (λ (u : DeskView). u.made) (sym is) ∙ sym (append-nil v.made), All-nil (λ place. IsAt w.seen place (IsNoInvoke call)))
+    ([], ap (λ (u : DeskView). u.made) (sym is) ∙ sym (append-nil v.made), All-nil (λ index. IsAt w.seen index (IsNoInvoke call)))
 not_own specs part call olds (o ∷ workers) news v w t f a b =
     let l = slice_get_within olds part v a in
     let s = some_at specs part (let n = t.1.1 in omega arith) in
@@ -231,13 +231,13 @@ not_own specs part call olds (o ∷ workers) news v w t f a b =
     let first = all_by_grow x.0.seen w.seen (IsNoInvoke call) x.0.made (prefix_trans x.0.seen m.0.seen w.seen j.other_seen later) (f 0 o x.0 refl x.1) in (
       x.0.made ++ rest.0,
       rest.1 ∙ (ap (λ (l : List ℕ). l ++ rest.0) j.made ∙ append_assoc v.made x.0.made rest.0),
-      All-append (λ place. IsAt w.seen place (IsNoInvoke call)) x.0.made rest.0 first rest.2,
+      All-append (λ index. IsAt w.seen index (IsNoInvoke call)) x.0.made rest.0 first rest.2,
     )
 
 not_answered : (call : ℕ) (seen : List Event) (e : Event) → AllByRecursion (λ e. answer_at call e ≡ None) seen → HasReplyIn seen e → IsNoInvoke call e
 not_answered call seen (event.Invoke c t o a) law h = λ q.
     let k = h.2 in
-    let none : answer_at call k.event ≡ None = at_place (λ e. answer_at call e ≡ None) seen h.0 k.event law k.there in
+    let none : answer_at call k.event ≡ None = at_position (λ e. answer_at call e ≡ None) seen h.0 k.event law k.there in
     let some : answer_at call k.event ≡ Some h.1 = subst (λ n. answer_at n k.event ≡ Some h.1) q k.is in
     none-some h.1 (sym none ∙ some)
 not_answered call seen (event.Enter c t attempt answer) law h = tt
@@ -252,7 +252,7 @@ not_other call thread other (event.Burst context c burst count end acts answer f
 not_other call thread other (event.Stage stage answers released) n law h = tt
 not_other call thread other (event.Arrive frame kept) n law h = tt
 
--- each hired worker that is done has ended so
+-- each hired worker that is done has ended as its work requires
 pub all_ended : {D S : Type 0} (is_seat : D → S → Type 0) (spec : D → PartSpec) (view : S → DeskView) (desks : List D) (scripts : List ThreadSpec) (arrivals : List (List (List ℕ))) (olds : List DeskView)
     (works : List Work) (workers : List (Worker S)) (dones : List (Done S))
     → Each (IsHired is_seat spec view desks olds) works workers → Each (IsDone is_seat spec view desks scripts arrivals) workers dones
@@ -300,11 +300,11 @@ module _ (specs : List PartSpec) (scripts : List ThreadSpec) (arrivals : List (L
             let n : length e.0 ≡ length olds = does.0 ∙ length-map olds start_view in
             let w = some_at e.0 d (omega arith) in
             let g = does.1 d (start_view v) w.0 (get_map start_view olds d v k) w.1 in
-            let rising : IsRisingFrom (length v.seen) (invokes_at w.0.seen g.gains.places) = rising_filter _ (length v.seen) g.gains.places g.rising in
+            let rising : IsRisingFrom (length v.seen) (invokes_at w.0.seen g.gains.numbers) = rising_filter _ (length v.seen) g.gains.numbers g.rising in
             subst (λ o. IsRisingFrom (length v.seen) (invokes_of d o row)) ops (subst (IsRisingFrom (length v.seen)) g.gains.invoked rising),
       )
 
-  -- the frames that a worker of arrivals handed in
+  -- the frames that a worker of arrivals added
   arrived_there : (p i : ℕ) (row : List Receipt) (v w : DeskView) → slice_get (all_works scripts arrivals) i ≡ Some (work.Arrivals p) → slice_get ends i ≡ Some (Ok row) → slice_get olds p ≡ Some v → slice_get news p ≡ Some w
       → HasArrived v w (slice_index_or arrivals p [])
   arrived_there p i row v w a b k j =
@@ -316,18 +316,18 @@ module _ (specs : List PartSpec) (scripts : List ThreadSpec) (arrivals : List (L
       let o = some_at e.0 p (omega arith) in
       let g = does.1 p (start_view v) o.0 (get_map start_view olds p v k) o.1 in
       record {
-        places = g.gains.places;
+        numbers = g.gains.numbers;
         rising = g.rising;
-        arrived = frames_grow o.0.seen w.seen g.gains.places (sees.1 p o.0 w o.1 j) g.gains.grows.there ∙ (g.gains.arrived ∙ if_same p (slice_index_or arrivals p []) []);
+        arrived = frames_grow o.0.seen w.seen g.gains.numbers (sees.1 p o.0 w o.1 j) g.gains.grows.there ∙ (g.gains.arrived ∙ if_same p (slice_index_or arrivals p []) []);
       }
 
   arrived_of : (rows : List (List Receipt)) → ends ≡ map (λ row. Ok row) rows → length rows ≡ length (all_works scripts arrivals) → (d : ℕ) (fs : List (List ℕ)) (v w : DeskView) → slice_index_or arrivals d [] ≡ fs
       → slice_get olds d ≡ Some v → slice_get news d ≡ Some w → HasArrived v w fs
-  arrived_of rows is count d [] v w a b c = record { places = []; rising = tt; arrived = refl }
+  arrived_of rows is count d [] v w a b c = record { numbers = []; rising = tt; arrived = refl }
   arrived_of rows is count d (f ∷ fs) v w a b c =
       let at = arrivals_there 0 arrivals d (f ∷ fs) (list_there arrivals d f fs a) (omega arith) in
       let there : slice_get (all_works scripts arrivals) (length scripts + at.0) ≡ Some (work.Arrivals d) =
-      behind_scripts 0 scripts (arrival_works 0 arrivals) at.0 ∙ (at.1 ∙ ap (λ k. Some (work.Arrivals k)) (omega arith)) in
+      after_scripts 0 scripts (arrival_works 0 arrivals) at.0 ∙ (at.1 ∙ ap (λ k. Some (work.Arrivals k)) (omega arith)) in
       let l = slice_get_within (all_works scripts arrivals) (length scripts + at.0) (work.Arrivals d) there in
       let row = some_at rows (length scripts + at.0) (omega arith) in
       let made : slice_get ends (length scripts + at.0) ≡ Some (Ok row.0) =
@@ -358,7 +358,7 @@ module _ (specs : List PartSpec) (scripts : List ThreadSpec) (arrivals : List (L
         );
       }
 
-  -- a thread's operations are in the order of its script
+  -- a thread's operations have the order of its script
   follows_there : (t : ℕ) (s : ThreadSpec) (row : List Receipt) → slice_get scripts t ≡ Some s → slice_get ends t ≡ Some (Ok row) → Follows (all_stamps news) 0 s.ops row
   follows_there t s row a b =
       let e = ended_at specs scripts arrivals (map start_view olds) (all_works scripts arrivals) others ends t (work.Script t) (Ok row) ended (script_there scripts (arrival_works 0 arrivals) t s a) b in
@@ -378,7 +378,7 @@ module _ (specs : List PartSpec) (scripts : List ThreadSpec) (arrivals : List (L
       (λ d v u w s c.
       let k = counts_same v u w (calls_by d scripts (all_works scripts arrivals)) (calls_in d scripts (all_works scripts arrivals)) (length (works_frames d arrivals (all_works scripts arrivals))) s c in
       record {
-        places = k.places;
+        numbers = k.numbers;
         grows = k.grows;
         invoked = λ t. let few = k.invoked t in omega (arith, calls_by_are t d scripts arrivals);
         invoked_in_all = let few = k.invoked_in_all in omega (arith, calls_are d scripts arrivals);
@@ -391,7 +391,7 @@ module _ (specs : List PartSpec) (scripts : List ThreadSpec) (arrivals : List (L
       let lengths = ended_length specs scripts arrivals (map start_view olds) (all_works scripts arrivals) others ends ended in
       all_runs specs mids others news taken (let a = lengths.0 in let b = lengths.1 in omega arith)
 
-  -- a cause that a worker met
+  -- the cause of a worker's refusal
   cause_there : (part : ℕ) (o : List DeskView) (Cause : PartState → Type 0) → AtDesks SeesMore o news → IsRefusedAt specs (map start_view olds) o part Cause → IsRefusedAt specs olds news part Cause
   cause_there part o Cause sees r =
       let v = new_at olds part r.old r.old_there in
@@ -410,20 +410,20 @@ module _ (specs : List PartSpec) (scripts : List ThreadSpec) (arrivals : List (L
         cause = r.cause;
       }
 
-  module _ (rows : List (List Receipt)) (own : Work) (place part : ℕ) (refusal : DeskRefused) (later : List (Result (List Receipt) WorkerStop))
-      (is : ends ≡ map (λ row. Ok row) rows ++ Err (stop.Refused own place part refusal) ∷ later) (small : length scripts ≤ 16) where
+  module _ (rows : List (List Receipt)) (own : Work) (index part : ℕ) (refusal : DeskRefused) (later : List (Result (List Receipt) WorkerStop))
+      (is : ends ≡ map (λ row. Ok row) rows ++ Err (stop.Refused own index part refusal) ∷ later) (small : length scripts ≤ 16) where
     -- the ends before the first stop are rows
     row_before : (i : ℕ) → i < length rows → (row : List Receipt) × (slice_get ends i ≡ Some (Ok row))
     row_before i l =
         let row = some_at rows i l in
-        (row.0, ap (λ (e : List (Result (List Receipt) WorkerStop)). slice_get e i) is ∙ get_append (map (λ r. Ok r) rows) (Err (stop.Refused own place part refusal) ∷ later) i (Ok row.0) (get_map (λ r. Ok r) rows i row.0 row.1))
+        (row.0, ap (λ (e : List (Result (List Receipt) WorkerStop)). slice_get e i) is ∙ get_append (map (λ r. Ok r) rows) (Err (stop.Refused own index part refusal) ∷ later) i (Ok row.0) (get_map (λ r. Ok r) rows i row.0 row.1))
 
-    stop_there : slice_get ends (length rows) ≡ Some (Err (stop.Refused own place part refusal))
-    stop_there = ap (λ (e : List (Result (List Receipt) WorkerStop)). slice_get e (length rows)) is ∙ behind rows
+    stop_there : slice_get ends (length rows) ≡ Some (Err (stop.Refused own index part refusal))
+    stop_there = ap (λ (e : List (Result (List Receipt) WorkerStop)). slice_get e (length rows)) is ∙ rest_after rows
       where
-        behind : (rs : List (List Receipt)) → slice_get (map (λ row. Ok row) rs ++ Err (stop.Refused own place part refusal) ∷ later) (length rs) ≡ Some (Err (stop.Refused own place part refusal))
-        behind [] = refl
-        behind (r ∷ rs) = behind rs
+        rest_after : (rs : List (List Receipt)) → slice_get (map (λ row. Ok row) rs ++ Err (stop.Refused own index part refusal) ∷ later) (length rs) ≡ Some (Err (stop.Refused own index part refusal))
+        rest_after [] = refl
+        rest_after (r ∷ rs) = rest_after rs
 
     has_row : (t : ℕ) (s : ThreadSpec) → t < length rows → slice_get scripts t ≡ Some s → HasRow olds news t s.ops
     has_row t s l a =
@@ -435,20 +435,20 @@ module _ (specs : List PartSpec) (scripts : List ThreadSpec) (arrivals : List (L
     other_thread t i (work.Script u) there n e l same_thread = n (sym (script_is scripts arrivals i u there).0 ∙ (same_thread ∙ e))
     other_thread t i (work.Arrivals p) there n e l same_thread = absurd (omega arith)
 
-    -- no worker invoked an open call: the refused one's were answered, and the others' are of other threads
+    -- no worker invoked an open call: the refused worker's calls were answered, and the others' are of other threads
     none_invoked : (t call : ℕ) (o : List DeskView) (w : DeskView) (f : IsOpenFor specs (map start_view olds) o t part call) → slice_get others (length rows) ≡ Some o → t ≡ length rows → t < 16 → slice_get news part ≡ Some w
         → AllByRecursion (λ e. answer_at call e ≡ None) f.new.seen → AllByRecursion (InvokesBy call t) w.seen
-        → (i : ℕ) (p : List DeskView) (x : DeskView) → slice_get others i ≡ Some p → slice_get p part ≡ Some x → All (λ place. IsAt x.seen place (IsNoInvoke call)) x.made
-    none_invoked t call o w f here e l there answers invokes i p x a b = by_place (same_or_other i (length rows))
+        → (i : ℕ) (p : List DeskView) (x : DeskView) → slice_get others i ≡ Some p → slice_get p part ≡ Some x → All (λ index. IsAt x.seen index (IsNoInvoke call)) x.made
+    none_invoked t call o w f here e l there answers invokes i p x a b = by_position (same_or_other i (length rows))
       where
-        by_place : (i ≡ length rows) ⊎ (i ≡ length rows → ⊥) → All (λ place. IsAt x.seen place (IsNoInvoke call)) x.made
-        by_place (inl q) =
+        by_position : (i ≡ length rows) ⊎ (i ≡ length rows → ⊥) → All (λ index. IsAt x.seen index (IsNoInvoke call)) x.made
+        by_position (inl q) =
             let p_is : o ≡ p = same_at others (length rows) o p here (subst (λ k. slice_get others k ≡ Some p) q a) in
             let x_is : f.new ≡ x = same_at p part f.new x (subst (λ (l : List DeskView). slice_get l part ≡ Some f.new) p_is f.new_there) b in
-            subst (λ (y : DeskView). All (λ place. IsAt y.seen place (IsNoInvoke call)) y.made) x_is
-            (All-weaker (λ place. IsAt f.new.seen place (HasReplyIn f.new.seen)) (λ place. IsAt f.new.seen place (IsNoInvoke call))
-            (λ place k. is_at_weaker f.new.seen place (HasReplyIn f.new.seen) (IsNoInvoke call) (λ e m. not_answered call f.new.seen e answers m) k) f.new.made (f.answered (no_made part f.old f.old_there)))
-        by_place (inr n) =
+            subst (λ (y : DeskView). All (λ index. IsAt y.seen index (IsNoInvoke call)) y.made) x_is
+            (All-weaker (λ index. IsAt f.new.seen index (HasReplyIn f.new.seen)) (λ index. IsAt f.new.seen index (IsNoInvoke call))
+            (λ index k. is_at_weaker f.new.seen index (HasReplyIn f.new.seen) (IsNoInvoke call) (λ e m. not_answered call f.new.seen e answers m) k) f.new.made (f.answered (no_made part f.old f.old_there)))
+        by_position (inr n) =
             let lengths = ended_length specs scripts arrivals (map start_view olds) (all_works scripts arrivals) others ends ended in
             let m = slice_get_within others i p a in
             let k = some_at (all_works scripts arrivals) i (let g = lengths.0 in let h = lengths.1 in omega arith) in
@@ -457,11 +457,11 @@ module _ (specs : List PartSpec) (scripts : List ThreadSpec) (arrivals : List (L
             let r_is : r.0 ≡ p = same_at others i r.0 p r.1 a in
             let made = (work_made specs scripts arrivals (map start_view olds) k.0 r.0 end.0 r.2).1 part f.old x f.old_there (subst (λ (l : List DeskView). slice_get l part ≡ Some x) (sym r_is) b) (no_made part f.old f.old_there) in
             let sees = (worker_sees specs mids others news i p taken a).1 part x w b there in
-            All-weaker (λ place. IsAt x.seen place (IsBy (thread_of k.0))) (λ place. IsAt x.seen place (IsNoInvoke call))
-            (λ place q. record {
+            All-weaker (λ index. IsAt x.seen index (IsBy (thread_of k.0))) (λ index. IsAt x.seen index (IsNoInvoke call))
+            (λ index q. record {
               event = q.event;
               there = q.there;
-              is = not_other call t (thread_of k.0) q.event (other_thread t i k.0 k.1 n e l) (at_place (InvokesBy call t) w.seen place q.event invokes (at_grows x.seen w.seen place q.event q.there sees)) q.is;
+              is = not_other call t (thread_of k.0) q.event (other_thread t i k.0 k.1 n e l) (at_position (InvokesBy call t) w.seen index q.event invokes (at_grows x.seen w.seen index q.event q.there sees)) q.is;
             }) x.made made
 
     foreign_call : (t : ℕ) (o : List DeskView) (call : ℕ) (v w : DeskView) → slice_get (all_works scripts arrivals) (length rows) ≡ Some (work.Script t) → slice_get others (length rows) ≡ Some o → AtDesks SeesMore o news → t ≡ length rows → t < 16
@@ -475,7 +475,7 @@ module _ (specs : List PartSpec) (scripts : List ThreadSpec) (arrivals : List (L
         (not.0, not.1 ∙ ap (λ (m : List ℕ). m ++ not.0) k.1, not.2)
 
     thread_refused : (t : ℕ) (o : List DeskView) → slice_get (all_works scripts arrivals) (length rows) ≡ Some (work.Script t) → slice_get others (length rows) ≡ Some o → AtDesks SeesMore o news
-        → WorkEnds specs scripts arrivals (map start_view olds) (work.Script t) o (Err (stop.Refused own place part refusal)) → IsThreadRefused specs scripts arrivals olds news t place part refusal
+        → WorkEnds specs scripts arrivals (map start_view olds) (work.Script t) o (Err (stop.Refused own index part refusal)) → IsThreadRefused specs scripts arrivals olds news t index part refusal
     thread_refused t o there here sees h =
         let at = script_is scripts arrivals (length rows) t there in
         let s_there : slice_get scripts t ≡ Some at.1.0 = subst (λ k. slice_get scripts k ≡ Some at.1.0) (sym at.0) at.1.1 in
@@ -486,7 +486,7 @@ module _ (specs : List PartSpec) (scripts : List ThreadSpec) (arrivals : List (L
           there = s_there;
           refusal_is = record {
             op = r.op;
-            operation = subst (λ l. slice_get l place ≡ Some (part, r.op)) ops r.operation;
+            operation = subst (λ l. slice_get l index ≡ Some (part, r.op)) ops r.operation;
             cause = cause_there part o (CallCause t refusal) sees r.cause;
           };
           foreign = λ call v w e a b. foreign_call t o call v w there here sees at.0 (let l = slice_get_within scripts (length rows) at.1.0 at.1.1 in let q = at.0 in omega (arith, small)) (subst (λ x. KnowsOpen specs (map start_view olds) o t part x) e h.2.1) a b;
@@ -494,9 +494,9 @@ module _ (specs : List PartSpec) (scripts : List ThreadSpec) (arrivals : List (L
         }
 
     part_refused : (p : ℕ) (o : List DeskView) → slice_get (all_works scripts arrivals) (length rows) ≡ Some (work.Arrivals p) → AtDesks SeesMore o news
-        → WorkEnds specs scripts arrivals (map start_view olds) (work.Arrivals p) o (Err (stop.Refused own place part refusal)) → IsPartRefused specs scripts arrivals olds news place part refusal
+        → WorkEnds specs scripts arrivals (map start_view olds) (work.Arrivals p) o (Err (stop.Refused own index part refusal)) → IsPartRefused specs scripts arrivals olds news index part refusal
     part_refused p o there sees h =
-        let at = arrivals_behind 0 scripts (arrival_works 0 arrivals) (length rows) p there in
+        let at = arrivals_after 0 scripts (arrival_works 0 arrivals) (length rows) p there in
         let list = arrivals_are 0 arrivals at.0 p at.2 in
         let part_is : part ≡ p = h.2.0 in
         let frames_there : slice_get arrivals part ≡ Some list.2.0 = subst (λ k. slice_get arrivals k ≡ Some list.2.0) (let e = list.1 in omega arith) list.2.1 in
@@ -506,7 +506,7 @@ module _ (specs : List PartSpec) (scripts : List ThreadSpec) (arrivals : List (L
           frames = list.2.0;
           there = frames_there;
           refusal_is = record {
-            frame = subst (λ fs. place < length fs) all r.frame;
+            frame = subst (λ fs. index < length fs) all r.frame;
             cause = cause_there part o (ArriveCause refusal) sees r.cause;
           };
           threads = λ t s a. has_row t s (let l = slice_get_within scripts t s a in let e = at.1 in omega arith) a;
@@ -519,39 +519,39 @@ module _ (specs : List PartSpec) (scripts : List ThreadSpec) (arrivals : List (L
             let before = arrivals_before 0 arrivals j p d fs here a some (omega arith) in
             let row = row_before (length scripts + before.0) (let m = before.1 in omega arith) in
             let there : slice_get (all_works scripts arrivals) (length scripts + before.0) ≡ Some (work.Arrivals d) =
-            behind_scripts 0 scripts (arrival_works 0 arrivals) before.0 ∙ (before.2 ∙ ap (λ k. Some (work.Arrivals k)) (omega arith)) in
+            after_scripts 0 scripts (arrival_works 0 arrivals) before.0 ∙ (before.2 ∙ ap (λ k. Some (work.Arrivals k)) (omega arith)) in
             subst (HasArrived v w) (get_or_from_slice_get arrivals d fs [] a) (arrived_there d (length scripts + before.0) row.0 v w there row.1 b c)
 
         sooner_arrived : (p' j : ℕ) → part ≡ p → length rows ≡ length scripts + j → slice_get (arrival_works 0 arrivals) j ≡ Some (work.Arrivals p) → (d : ℕ) (fs : List (List ℕ)) (v w : DeskView) → d < part
             → slice_get arrivals d ≡ Some fs → slice_get olds d ≡ Some v → slice_get news d ≡ Some w → HasArrived v w fs
-        sooner_arrived p' j e long here d [] v w l a b c = record { places = []; rising = tt; arrived = refl }
+        sooner_arrived p' j e long here d [] v w l a b c = record { numbers = []; rising = tt; arrived = refl }
         sooner_arrived p' j e long here d (f ∷ fs) v w l a b c = some_frames d (f ∷ fs) v w j (omega arith) long here (omega arith) a b c
 
-    pub all_refused : IsRefused specs scripts arrivals olds news own place part refusal
+    pub all_refused : IsRefused specs scripts arrivals olds news own index part refusal
     all_refused =
         let lengths = ended_length specs scripts arrivals (map start_view olds) (all_works scripts arrivals) others ends ended in
         let l = slice_get_within ends (length rows) _ stop_there in
         let k = some_at (all_works scripts arrivals) (length rows) (let n = lengths.0 in omega arith) in
-        let e = ended_at specs scripts arrivals (map start_view olds) (all_works scripts arrivals) others ends (length rows) k.0 (Err (stop.Refused own place part refusal)) ended k.1 stop_there in
+        let e = ended_at specs scripts arrivals (map start_view olds) (all_works scripts arrivals) others ends (length rows) k.0 (Err (stop.Refused own index part refusal)) ended k.1 stop_there in
         by_work k.0 e.0 k.1 e.1 (worker_sees specs mids others news (length rows) e.0 taken e.1) e.2
       where
         by_work : (k : Work) (o : List DeskView) → slice_get (all_works scripts arrivals) (length rows) ≡ Some k → slice_get others (length rows) ≡ Some o → AtDesks SeesMore o news
-            → WorkEnds specs scripts arrivals (map start_view olds) k o (Err (stop.Refused own place part refusal)) → IsRefused specs scripts arrivals olds news own place part refusal
+            → WorkEnds specs scripts arrivals (map start_view olds) k o (Err (stop.Refused own index part refusal)) → IsRefused specs scripts arrivals olds news own index part refusal
         by_work (work.Script t) o there here sees h =
-            subst (λ k. IsRefused specs scripts arrivals olds news k place part refusal) (sym h.1) (thread_refused t o there here sees h)
+            subst (λ k. IsRefused specs scripts arrivals olds news k index part refusal) (sym h.1) (thread_refused t o there here sees h)
         by_work (work.Arrivals p) o there here sees h =
-            subst (λ k. IsRefused specs scripts arrivals olds news k place part refusal) (sym h.1) (h.2.0, part_refused p o there sees h)
+            subst (λ k. IsRefused specs scripts arrivals olds news k index part refusal) (sym h.1) (h.2.0, part_refused p o there sees h)
 
   pub all_alone : StayAlone olds news
   all_alone = all_back_alone specs olds mids others news (all_grown.0) spread taken
 
   pub all_stopped : (why : WorkerStop) (small : length scripts ≤ 16) (r : RowsEnd ends (Err why)) → WorkersEnd specs scripts arrivals olds news (Err why)
-  all_stopped (stop.Refused own place part refusal) small r = (all_grown, all_refused r.0 own place part refusal r.1 r.2 small, all_seen_runs, all_alone)
+  all_stopped (stop.Refused own index part refusal) small r = (all_grown, all_refused r.0 own index part refusal r.1 r.2 small, all_seen_runs, all_alone)
   all_stopped stop.NoMemory small r = tt
 
--- ---- what the steps between need
+-- ---- lemmas for the steps in between
 
--- the points that were spread over the workers' seats are there when these have done their work
+-- points that were spread over the workers' seats are still there when these have done their work
 pub spread_worked : {D S : Type 0} (is_seat : D → S → Type 0) (spec : D → PartSpec) (view : S → DeskView) (desks : List D) (scripts : List ThreadSpec) (arrivals : List (List (List ℕ))) (olds news : List DeskView)
     (workers : List (Worker S)) (dones : List (Done S)) → Each (IsDone is_seat spec view desks scripts arrivals) workers dones → Spread olds news (map (λ w. map view w.seats.items) workers)
     → Spread olds news (map (λ d. map view d.seats.items) dones)
@@ -570,7 +570,7 @@ is_work scripts arrivals i (work.Script t) h =
     let l = slice_get_within scripts i r.1.0 r.1.1 in
     let e = r.0 in omega arith
 is_work scripts arrivals i (work.Arrivals p) h =
-    let at = arrivals_behind 0 scripts (arrival_works 0 arrivals) i p h in
+    let at = arrivals_after 0 scripts (arrival_works 0 arrivals) i p h in
     let r = arrivals_are 0 arrivals at.0 p at.2 in
     let l = slice_get_within arrivals r.0 r.2.0 r.2.1 in
     let e = r.1 in omega arith
@@ -598,7 +598,7 @@ all_back is_seat spec view desks scripts arrivals workers dones h =
     let w = some_at workers i (let n = h.0 in omega arith) in
     (h.1 i w.0 done w.1 a).seats)
 
--- a value of one list for that of an equal one
+-- the same for lists that are equal
 pub ended_with : (specs : List PartSpec) (scripts : List ThreadSpec) (arrivals : List (List (List ℕ))) (starts : List DeskView) (works works' : List Work) (others : List (List DeskView)) (ends ends' : List (Result (List Receipt) WorkerStop))
     → works ≡ works' → ends' ≡ ends → AllEnded specs scripts arrivals starts works others ends → AllEnded specs scripts arrivals starts works' others ends'
 ended_with specs scripts arrivals starts works works' others ends ends' e f h =

@@ -1,4 +1,4 @@
--- What a longer list of events keeps, and what seats gain one after another.
+-- What a longer list of events keeps, and what seats gain in consecutive steps.
 use Rattle.std.proofs.Common.{◌≡◌, ℕ, zero, suc, ◌<◌, ◌≤◌, Bool, true, false, cond, Option, Some, None, is_some, List, [], ◌∷◌, ◌++◌, length, slice_get, subst, sym, refl, ap, ◌∙◌, arith, append_assoc, append-nil}
 use Rattle.std.specs.Prelude.{All}
 use Rattle.std.specs.List.{cons_option, filter}
@@ -9,60 +9,60 @@ use Rattle.nook_data.specs.declared.steps.Event.{Event}
 use Rattle.nook_data.specs.declared.steps.Event.TheVariants as event
 use Rattle.nook_data.specs.declared.calls.Op.{Op}
 use Rattle.nook_data.specs.declared.desks.Receipt.{Receipt}
-use Rattle.nook_data.specs.Places.{at_number}
+use Rattle.nook_data.specs.Numbered.{at_number}
 use Rattle.desk_like.specs.Desks.{Adds, AddsNothing, AreOthers, DeskView, Invokes, IsArrive, IsAt, IsInvoke, IsOther, IsReceipt, IsRisingFrom, Joins, IsReply}
 use Rattle.app_threads.specs.Workers.{Does, Gains, Grows, frame_of, frames_at, invokes_at, is_invoke}
 use Rattle.app_threads.proofs.Listed.{filter_map_none, filter_map_same, filter_none, filter_same, get_append, prefix_length, prefix_refl, prefix_trans}
 
--- ---- one place
+-- ---- one event number
 
-pub at_grows : (seen more : List Event) (place : ℕ) (e : Event) → at_number place seen ≡ Some e → IsPrefix seen more → at_number place more ≡ Some e
+pub at_grows : (seen more : List Event) (number : ℕ) (e : Event) → at_number number seen ≡ Some e → IsPrefix seen more → at_number number more ≡ Some e
 at_grows seen more zero e h p = absurd cc
-at_grows seen more (suc place) e h p = subst (λ (l : List Event). slice_get l place ≡ Some e) p.1 (get_append seen p.0 place e h)
+at_grows seen more (suc number) e h p = subst (λ (l : List Event). slice_get l number ≡ Some e) p.1 (get_append seen p.0 number e h)
 
-pub is_at_grows : (seen more : List Event) (place : ℕ) (Is : Event → Type 0) → IsPrefix seen more → IsAt seen place Is → IsAt more place Is
-is_at_grows seen more place Is p h = record { event = h.event; there = at_grows seen more place h.event h.there p; is = h.is }
+pub is_at_grows : (seen more : List Event) (number : ℕ) (Is : Event → Type 0) → IsPrefix seen more → IsAt seen number Is → IsAt more number Is
+is_at_grows seen more number Is p h = record { event = h.event; there = at_grows seen more number h.event h.there p; is = h.is }
 
-pub place_within : (seen : List Event) (place : ℕ) (e : Event) → at_number place seen ≡ Some e → place ≤ length seen
-place_within seen zero e h = omega arith
-place_within seen (suc place) e h = omega (arith, slice_get_within seen place e h)
+pub position_within : (seen : List Event) (number : ℕ) (e : Event) → at_number number seen ≡ Some e → number ≤ length seen
+position_within seen zero e h = omega arith
+position_within seen (suc number) e h = omega (arith, slice_get_within seen number e h)
 
 abbrev pub There : List Event → ℕ → Type 0
-There seen place = is_some (at_number place seen) ≡ true
+There seen number = is_some (at_number number seen) ≡ true
 
 some_of : (o : Option Event) → is_some o ≡ true → (e : Event) × (o ≡ Some e)
 some_of None h = absurd cc
 some_of (Some e) h = (e, refl)
 
-pub event_there : (seen : List Event) (place : ℕ) → There seen place → (e : Event) × (at_number place seen ≡ Some e)
-event_there seen place h = some_of (at_number place seen) h
+pub event_there : (seen : List Event) (number : ℕ) → There seen number → (e : Event) × (at_number number seen ≡ Some e)
+event_there seen number h = some_of (at_number number seen) h
 
-pub there_is : (seen : List Event) (place : ℕ) (Is : Event → Type 0) → IsAt seen place Is → There seen place
-there_is seen place Is h = ap is_some h.there
+pub there_is : (seen : List Event) (number : ℕ) (Is : Event → Type 0) → IsAt seen number Is → There seen number
+there_is seen number Is h = ap is_some h.there
 
-pub same_event : (seen more : List Event) (place : ℕ) → IsPrefix seen more → There seen place → at_number place more ≡ at_number place seen
-same_event seen more place p h =
-    let e = event_there seen place h in at_grows seen more place e.0 e.1 p ∙ sym e.1
+pub same_event : (seen more : List Event) (number : ℕ) → IsPrefix seen more → There seen number → at_number number more ≡ at_number number seen
+same_event seen more number p h =
+    let e = event_there seen number h in at_grows seen more number e.0 e.1 p ∙ sym e.1
 
--- ---- several places
+-- ---- several event numbers
 
-pub all_there_grow : (seen more : List Event) (places : List ℕ) → IsPrefix seen more → All (There seen) places → All (There more) places
-all_there_grow seen more places p h =
-    All-weaker (There seen) (There more) (λ place t. ap is_some (same_event seen more place p t) ∙ t) places h
+pub all_there_grow : (seen more : List Event) (numbers : List ℕ) → IsPrefix seen more → All (There seen) numbers → All (There more) numbers
+all_there_grow seen more numbers p h =
+    All-weaker (There seen) (There more) (λ number t. ap is_some (same_event seen more number p t) ∙ t) numbers h
 
-pub all_within : (seen : List Event) (places : List ℕ) → All (There seen) places → All (λ place. place ≤ length seen) places
-all_within seen places h =
-    All-weaker (There seen) (λ place. place ≤ length seen) (λ place t. let e = event_there seen place t in place_within seen place e.0 e.1) places h
+pub all_within : (seen : List Event) (numbers : List ℕ) → All (There seen) numbers → All (λ number. number ≤ length seen) numbers
+all_within seen numbers h =
+    All-weaker (There seen) (λ number. number ≤ length seen) (λ number t. let e = event_there seen number t in position_within seen number e.0 e.1) numbers h
 
-pub invokes_grow : (seen more : List Event) (places : List ℕ) → IsPrefix seen more → All (There seen) places → invokes_at more places ≡ invokes_at seen places
-invokes_grow seen more places p h =
-    filter_same (λ place. is_invoke (at_number place more)) (λ place. is_invoke (at_number place seen)) places
-    (All-weaker (There seen) (λ place. is_invoke (at_number place more) ≡ is_invoke (at_number place seen)) (λ place t. ap is_invoke (same_event seen more place p t)) places h)
+pub invokes_grow : (seen more : List Event) (numbers : List ℕ) → IsPrefix seen more → All (There seen) numbers → invokes_at more numbers ≡ invokes_at seen numbers
+invokes_grow seen more numbers p h =
+    filter_same (λ number. is_invoke (at_number number more)) (λ number. is_invoke (at_number number seen)) numbers
+    (All-weaker (There seen) (λ number. is_invoke (at_number number more) ≡ is_invoke (at_number number seen)) (λ number t. ap is_invoke (same_event seen more number p t)) numbers h)
 
-pub frames_grow : (seen more : List Event) (places : List ℕ) → IsPrefix seen more → All (There seen) places → frames_at more places ≡ frames_at seen places
-frames_grow seen more places p h =
-    filter_map_same (λ place. frame_of (at_number place more)) (λ place. frame_of (at_number place seen)) places
-    (All-weaker (There seen) (λ place. frame_of (at_number place more) ≡ frame_of (at_number place seen)) (λ place t. ap frame_of (same_event seen more place p t)) places h)
+pub frames_grow : (seen more : List Event) (numbers : List ℕ) → IsPrefix seen more → All (There seen) numbers → frames_at more numbers ≡ frames_at seen numbers
+frames_grow seen more numbers p h =
+    filter_map_same (λ number. frame_of (at_number number more)) (λ number. frame_of (at_number number seen)) numbers
+    (All-weaker (There seen) (λ number. frame_of (at_number number more) ≡ frame_of (at_number number seen)) (λ number t. ap frame_of (same_event seen more number p t)) numbers h)
 
 other_invoke : (e : Event) → IsOther e → is_invoke (Some e) ≡ false
 other_invoke (event.Invoke call thread op answer) h = absurd h
@@ -78,31 +78,31 @@ other_frame (event.Burst context call burst count end acts answer failure) h = r
 other_frame (event.Stage stage answers released) h = refl
 other_frame (event.Arrive frame kept) h = absurd h
 
-pub others_there : (seen : List Event) (places : List ℕ) → AreOthers seen places → All (There seen) places
-others_there seen places h = All-weaker (λ place. IsAt seen place IsOther) (There seen) (λ place t. there_is seen place IsOther t) places h
+pub others_there : (seen : List Event) (numbers : List ℕ) → AreOthers seen numbers → All (There seen) numbers
+others_there seen numbers h = All-weaker (λ number. IsAt seen number IsOther) (There seen) (λ number t. there_is seen number IsOther t) numbers h
 
-pub others_invoke : (seen : List Event) (places : List ℕ) → AreOthers seen places → invokes_at seen places ≡ []
-others_invoke seen places h =
-    filter_none (λ place. is_invoke (at_number place seen)) places
-    (All-weaker (λ place. IsAt seen place IsOther) (λ place. is_invoke (at_number place seen) ≡ false) (λ place t. ap is_invoke t.there ∙ other_invoke t.event t.is) places h)
+pub others_invoke : (seen : List Event) (numbers : List ℕ) → AreOthers seen numbers → invokes_at seen numbers ≡ []
+others_invoke seen numbers h =
+    filter_none (λ number. is_invoke (at_number number seen)) numbers
+    (All-weaker (λ number. IsAt seen number IsOther) (λ number. is_invoke (at_number number seen) ≡ false) (λ number t. ap is_invoke t.there ∙ other_invoke t.event t.is) numbers h)
 
-pub others_frame : (seen : List Event) (places : List ℕ) → AreOthers seen places → frames_at seen places ≡ []
-others_frame seen places h =
-    filter_map_none (λ place. frame_of (at_number place seen)) places
-    (All-weaker (λ place. IsAt seen place IsOther) (λ place. frame_of (at_number place seen) ≡ None) (λ place t. ap frame_of t.there ∙ other_frame t.event t.is) places h)
+pub others_frame : (seen : List Event) (numbers : List ℕ) → AreOthers seen numbers → frames_at seen numbers ≡ []
+others_frame seen numbers h =
+    filter_map_none (λ number. frame_of (at_number number seen)) numbers
+    (All-weaker (λ number. IsAt seen number IsOther) (λ number. frame_of (at_number number seen) ≡ None) (λ number t. ap frame_of t.there ∙ other_frame t.event t.is) numbers h)
 
--- ---- rising places
+-- ---- rising numbers
 
-pub rising_later : (a b : ℕ) (places : List ℕ) → a ≤ b → IsRisingFrom b places → IsRisingFrom a places
+pub rising_later : (a b : ℕ) (numbers : List ℕ) → a ≤ b → IsRisingFrom b numbers → IsRisingFrom a numbers
 rising_later a b [] h r = r
-rising_later a b (place ∷ places) h r = (let l = r.0 in omega arith, r.1)
+rising_later a b (number ∷ numbers) h r = (let l = r.0 in omega arith, r.1)
 
-pub rising_append : (a b : ℕ) (ps qs : List ℕ) → a ≤ b → IsRisingFrom a ps → All (λ place. place ≤ b) ps → IsRisingFrom b qs → IsRisingFrom a (ps ++ qs)
+pub rising_append : (a b : ℕ) (ps qs : List ℕ) → a ≤ b → IsRisingFrom a ps → All (λ number. number ≤ b) ps → IsRisingFrom b qs → IsRisingFrom a (ps ++ qs)
 rising_append a b [] qs h r w s = rising_later a b qs h s
 rising_append a b (p ∷ ps) qs h r w s =
-    (r.0, rising_append p b ps qs (All-head (λ place. place ≤ b) p ps w) r.1 (All-tail (λ place. place ≤ b) p ps w) s)
+    (r.0, rising_append p b ps qs (All-head (λ number. number ≤ b) p ps w) r.1 (All-tail (λ number. number ≤ b) p ps w) s)
 
-pub rising_filter : (f : ℕ → Bool) (a : ℕ) (places : List ℕ) → IsRisingFrom a places → IsRisingFrom a (filter f places)
+pub rising_filter : (f : ℕ → Bool) (a : ℕ) (numbers : List ℕ) → IsRisingFrom a numbers → IsRisingFrom a (filter f numbers)
 rising_filter f a [] r = r
 rising_filter f a (p ∷ ps) r =
     let rest = rising_filter f p ps r.1 in
@@ -122,19 +122,19 @@ grows_more u v w ps qs g h = record {
 }
 
 abbrev pub gains_none : (v : DeskView) → Gains v v [] []
-gains_none v = record { places = []; grows = grows_none v; invoked = refl; arrived = refl }
+gains_none v = record { numbers = []; grows = grows_none v; invoked = refl; arrived = refl }
 
 abbrev pub gains_more : (u v w : DeskView) (is js : List ℕ) (fs gs : List (List ℕ)) → Gains u v is fs → Gains v w js gs → Gains u w (is ++ js) (fs ++ gs)
 gains_more u v w is js fs gs g h = record {
-  places = g.places ++ h.places;
-  grows = grows_more u v w g.places h.places g.grows h.grows;
+  numbers = g.numbers ++ h.numbers;
+  grows = grows_more u v w g.numbers h.numbers g.grows h.grows;
   invoked =
-      filter-append (λ place. is_invoke (at_number place w.seen)) g.places h.places
-      ∙ (ap (λ (m : List ℕ). m ++ invokes_at w.seen h.places) (invokes_grow v.seen w.seen g.places h.grows.seen g.grows.there ∙ g.invoked)
+      filter-append (λ number. is_invoke (at_number number w.seen)) g.numbers h.numbers
+      ∙ (ap (λ (m : List ℕ). m ++ invokes_at w.seen h.numbers) (invokes_grow v.seen w.seen g.numbers h.grows.seen g.grows.there ∙ g.invoked)
       ∙ ap (λ (m : List ℕ). is ++ m) h.invoked);
   arrived =
-      filter_map-append (λ place. frame_of (at_number place w.seen)) g.places h.places
-      ∙ (ap (λ (m : List (List ℕ)). m ++ frames_at w.seen h.places) (frames_grow v.seen w.seen g.places h.grows.seen g.grows.there ∙ g.arrived)
+      filter_map-append (λ number. frame_of (at_number number w.seen)) g.numbers h.numbers
+      ∙ (ap (λ (m : List (List ℕ)). m ++ frames_at w.seen h.numbers) (frames_grow v.seen w.seen g.numbers h.grows.seen g.grows.there ∙ g.arrived)
       ∙ ap (λ (m : List (List ℕ)). fs ++ m) h.arrived);
 }
 
@@ -144,14 +144,14 @@ does_none v = record { gains = gains_none v; rising = tt }
 pub does_more : (u v w : DeskView) (is js : List ℕ) (fs gs : List (List ℕ)) → Does u v is fs → Does v w js gs → Does u w (is ++ js) (fs ++ gs)
 does_more u v w is js fs gs g h = record {
   gains = gains_more u v w is js fs gs g.gains h.gains;
-  rising = rising_append (length u.seen) (length v.seen) g.gains.places h.gains.places (prefix_length u.seen v.seen g.gains.grows.seen) g.rising (all_within v.seen g.gains.places g.gains.grows.there) h.rising;
+  rising = rising_append (length u.seen) (length v.seen) g.gains.numbers h.gains.numbers (prefix_length u.seen v.seen g.gains.grows.seen) g.rising (all_within v.seen g.gains.numbers g.gains.grows.there) h.rising;
 }
 
 -- ---- what the desk's calls add
 
 pub nothing_does : (v w : DeskView) → AddsNothing v w → Does v w [] []
 nothing_does v w a = record {
-  gains = record { places = []; grows = record { seen = a.seen; made = a.made; there = All-nil (There w.seen) }; invoked = refl; arrived = refl };
+  gains = record { numbers = []; grows = record { seen = a.seen; made = a.made; there = All-nil (There w.seen) }; invoked = refl; arrived = refl };
   rising = tt;
 }
 
@@ -172,7 +172,7 @@ invoke_no_frame call thread op (event.Arrive frame kept) h = absurd h
 pub invokes_does : (v w : DeskView) (call thread : ℕ) (op : Op) (at : ℕ) → Invokes v w call thread op at → Does v w (at ∷ []) []
 invokes_does v w call thread op at h = record {
   gains = record {
-    places = at ∷ h.others;
+    numbers = at ∷ h.others;
     grows = record {
       seen = h.adds.seen;
       made = h.adds.made;
@@ -202,10 +202,10 @@ arrive_no_invoke frame kept (event.Burst context c burst count end acts answer f
 arrive_no_invoke frame kept (event.Stage stage answers released) h = refl
 arrive_no_invoke frame kept (event.Arrive f k) h = refl
 
-pub arrives_does : (v w : DeskView) (frame : List ℕ) (kept : Bool) → ((place : ℕ) × Adds v w (place ∷ []) × IsAt w.seen place (IsArrive frame kept)) → Does v w [] (frame ∷ [])
+pub arrives_does : (v w : DeskView) (frame : List ℕ) (kept : Bool) → ((number : ℕ) × Adds v w (number ∷ []) × IsAt w.seen number (IsArrive frame kept)) → Does v w [] (frame ∷ [])
 arrives_does v w frame kept h = record {
   gains = record {
-    places = h.0 ∷ [];
+    numbers = h.0 ∷ [];
     grows = record {
       seen = h.1.seen;
       made = h.1.made;
@@ -224,16 +224,16 @@ receipt_grows seen more thread op receipt p h = record {
   ordered = h.ordered;
 }
 
--- ---- seats that are taken in
+-- ---- joined seats
 
 pub joins_gains : (s o v w : DeskView) (is : List ℕ) (fs : List (List ℕ)) → s.made ≡ [] → Joins v o w → Gains s o is fs → Gains v w is fs
 joins_gains s o v w is fs none j g = record {
-  places = g.places;
+  numbers = g.numbers;
   grows = record {
     seen = j.seen;
-    made = j.made ∙ ap (λ (m : List ℕ). v.made ++ m) (g.grows.made ∙ ap (λ (m : List ℕ). m ++ g.places) none);
-    there = all_there_grow o.seen w.seen g.places j.other_seen g.grows.there;
+    made = j.made ∙ ap (λ (m : List ℕ). v.made ++ m) (g.grows.made ∙ ap (λ (m : List ℕ). m ++ g.numbers) none);
+    there = all_there_grow o.seen w.seen g.numbers j.other_seen g.grows.there;
   };
-  invoked = invokes_grow o.seen w.seen g.places j.other_seen g.grows.there ∙ g.invoked;
-  arrived = frames_grow o.seen w.seen g.places j.other_seen g.grows.there ∙ g.arrived;
+  invoked = invokes_grow o.seen w.seen g.numbers j.other_seen g.grows.there ∙ g.invoked;
+  arrived = frames_grow o.seen w.seen g.numbers j.other_seen g.grows.there ∙ g.arrived;
 }

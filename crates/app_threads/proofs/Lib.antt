@@ -9,5 +9,5 @@ pub mod SeatLists
 pub mod Splitting
 pub mod Stamped
 pub mod Starting
-pub mod WorkPlaces
+pub mod WorkIndices
 pub mod Working

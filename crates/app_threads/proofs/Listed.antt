@@ -1,4 +1,4 @@
--- Lists: items at places, filters that agree, beginnings.
+-- Lists: items by their indices, filters that agree, and prefixes.
 use Rattle.std.proofs.Common.{◌≡◌, ◌⊎◌, ℕ, zero, suc, ◌+◌, ◌<◌, ◌≤◌, Bool, false, cond, Option, Some, None, List, [], ◌∷◌, ◌++◌, map, length, set, slice_get, take, drop, subst, sym, refl, ap, ◌∙◌, inl, inr, arith, append_assoc, append-nil, length-append}
 use Rattle.std.specs.Prelude.{◌==◌, if◌then◌else◌, All}
 use Rattle.std.specs.List.{filter, filter_map, cons_option}
@@ -16,7 +16,7 @@ if_same n x y = grind (arith, nat_tests)
 pub if_other : {X : Type 0} (n m : ℕ) (x y : X) → (n ≡ m → ⊥) → (if n == m then x else y) ≡ y
 if_other n m x y h = grind (arith, nat_tests)
 
--- either two numbers are one, or they are not
+-- two numbers are equal or not
 pub same_or_other : (n m : ℕ) → (n ≡ m) ⊎ (n ≡ m → ⊥)
 same_or_other zero zero = inl refl
 same_or_other zero (suc m) = inr (λ e. absurd (omega arith))
@@ -109,7 +109,7 @@ module _ {X : Type 0} where
   take_few [] (suc n) = omega arith
   take_few (x ∷ xs) (suc n) = let k = take_few xs n in omega arith
 
-  -- an item of a beginning is one of the list
+  -- an item of a prefix is an item of the list
   pub take_get : (xs : List X) (i n : ℕ) (x : X) → slice_get (take n xs) i ≡ Some x → slice_get xs i ≡ Some x
   take_get xs i zero x h = absurd cc
   take_get [] i (suc n) x h = absurd cc
@@ -119,7 +119,7 @@ module _ {X : Type 0} where
   pub get_map : {Y : Type 0} (f : X → Y) (xs : List X) (i : ℕ) (x : X) → slice_get xs i ≡ Some x → slice_get (map f xs) i ≡ Some (f x)
   get_map f xs i x h = slice_get-map f xs i ∙ ap (option_map f) h
 
--- what stands in a mapped list
+-- an item of a mapped list is the image of one of the list
 pub map_get : {X Y : Type 0} (f : X → Y) (xs : List X) (i : ℕ) (y : Y) → slice_get (map f xs) i ≡ Some y → (x : X) × (slice_get xs i ≡ Some x) × (y ≡ f x)
 map_get f [] i y h = absurd cc
 map_get f (x ∷ xs) zero y h = (x, refl, sym (some_same (f x) y h))
@@ -138,10 +138,10 @@ get_push (z ∷ xs) x y (suc i) h = after (get_push xs x y i h)
     after (inr k) = inr (ap suc k.0, k.1)
 
 pub each_push : {X Y : Type 0} (R : X → Y → Type 0) (xs : List X) (ys : List Y) (x : X) (y : Y) → Each R xs ys → R x y → Each R (xs ++ x ∷ []) (ys ++ y ∷ [])
-each_push {X} {Y} R xs ys x y h k = (let n = h.0 in omega (arith, length-append xs (x ∷ []), length-append ys (y ∷ [])), λ i a b p q. by_place i a b (get_push xs x a i p) (get_push ys y b i q))
+each_push {X} {Y} R xs ys x y h k = (let n = h.0 in omega (arith, length-append xs (x ∷ []), length-append ys (y ∷ [])), λ i a b p q. by_position i a b (get_push xs x a i p) (get_push ys y b i q))
   where
-    by_place : (i : ℕ) (a : X) (b : Y) → (slice_get xs i ≡ Some a) ⊎ ((i ≡ length xs) × (x ≡ a)) → (slice_get ys i ≡ Some b) ⊎ ((i ≡ length ys) × (y ≡ b)) → R a b
-    by_place i a b (inl p) (inl q) = h.1 i a b p q
-    by_place i a b (inl p) (inr q) = absurd (let n = h.0 in let l = slice_get_within xs i a p in let m = q.0 in omega arith)
-    by_place i a b (inr p) (inl q) = absurd (let n = h.0 in let l = slice_get_within ys i b q in let m = p.0 in omega arith)
-    by_place i a b (inr p) (inr q) = subst (λ z. R z b) p.1 (subst (R x) q.1 k)
+    by_position : (i : ℕ) (a : X) (b : Y) → (slice_get xs i ≡ Some a) ⊎ ((i ≡ length xs) × (x ≡ a)) → (slice_get ys i ≡ Some b) ⊎ ((i ≡ length ys) × (y ≡ b)) → R a b
+    by_position i a b (inl p) (inl q) = h.1 i a b p q
+    by_position i a b (inl p) (inr q) = absurd (let n = h.0 in let l = slice_get_within xs i a p in let m = q.0 in omega arith)
+    by_position i a b (inr p) (inl q) = absurd (let n = h.0 in let l = slice_get_within ys i b q in let m = p.0 in omega arith)
+    by_position i a b (inr p) (inr q) = subst (λ z. R z b) p.1 (subst (R x) q.1 k)

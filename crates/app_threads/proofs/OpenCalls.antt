@@ -1,4 +1,4 @@
--- An open call of a run that goes on.
+-- An open call of a run that continues.
 use Rattle.std.proofs.Common.{◌≡◌, ℕ, zero, suc, ◌≤◌, Some, None, List, [], ◌∷◌, ◌++◌, slice_get, subst, sym, arith}
 use Rattle.std.specs.List.{AllByRecursion}
 use mathlib.Core.List.{IsPrefix}
@@ -13,7 +13,7 @@ use Rattle.part_defs.specs.State.{PartState}
 use Rattle.part_defs.specs.Steps.{opening}
 use Rattle.part_laws.proofs.CallNumbers.{CameFrom, HasEntry, InvokesAbove, InvokesBy, Quiet, open_has, small_calls}
 use Rattle.desk_like.specs.Desks.{HasOpen}
-use Rattle.nook_data.specs.Places.{at_number}
+use Rattle.nook_data.specs.Numbered.{at_number}
 use Rattle.part_laws.proofs.UnansweredCalls.{found_has, fresh_after, open_after}
 use Rattle.app_threads.proofs.Listed.{some_same}
 
@@ -45,7 +45,7 @@ all_above_other : (count call thread : ℕ) (events : List Event) → call ≤ c
 all_above_other count call thread [] l h = tt
 all_above_other count call thread (e ∷ events) l h = (above_other count call thread e l h.0, all_above_other count call thread events l h.1)
 
--- a call that a thread has open where a run stands is answered nowhere before, and invoked by that thread alone, then and later
+-- if a thread has a call open after a prefix of a run, the prefix does not answer it and no other thread invokes it
 pub open_law : (spec : PartSpec) (between whole : List Event) (thread call : ℕ) → IsRun spec whole → IsPrefix between whole → HasOpen (state_of spec between) thread call
     → AllByRecursion (λ e. answer_at call e ≡ None) between × AllByRecursion (InvokesBy call thread) whole
 open_law spec between whole thread call run p h =
@@ -64,6 +64,6 @@ in_list P [] i x h e = absurd cc
 in_list P (y ∷ xs) zero x h e = subst P (some_same y x e) h.0
 in_list P (y ∷ xs) (suc i) x h e = in_list P xs i x h.1 e
 
-pub at_place : (P : Event → Type 0) (events : List Event) (place : ℕ) (e : Event) → AllByRecursion P events → at_number place events ≡ Some e → P e
-at_place P events zero e h k = absurd cc
-at_place P events (suc place) e h k = in_list P events place e h k
+pub at_position : (P : Event → Type 0) (events : List Event) (position : ℕ) (e : Event) → AllByRecursion P events → at_number position events ≡ Some e → P e
+at_position P events zero e h k = absurd cc
+at_position P events (suc position) e h k = in_list P events position e h k

@@ -1,4 +1,4 @@
--- Where the points of the seats' shares are, while seats are made beside others, work, and are taken in.
+-- Where the points of the seats' shares are while seats are split, work, and are joined.
 use Rattle.std.proofs.Common.{◌≡◌, ◌⊎◌, ℕ, zero, suc, Bool, true, false, ◌||◌, Some, List, [], ◌∷◌, ◌++◌, length, slice_get, subst, sym, refl, ap, ◌∙◌, inl, inr, arith}
 use Rattle.std.proofs.lemmas.Option.{slice_get_within}
 use Rattle.nook_data.specs.declared.scenario.PartSpec.{PartSpec}
@@ -17,7 +17,7 @@ one_of false b e = inr e
 in_a_half : (s : Share) (point : ℕ → Bool) → owns s point ≡ true → (owns (half false s) point ≡ true) ⊎ (owns (half true s) point ≡ true)
 in_a_half s point e = one_of (owns (half false s) point) (owns (half true s) point) (sym (owns_halves s point) ∙ e)
 
--- the last of a list
+-- the last item of a list
 last_there : (xs : List DeskView) (x : DeskView) (n : ℕ) → length xs ≡ n → slice_get (xs ++ x ∷ []) n ≡ Some x
 last_there [] x zero e = refl
 last_there [] x (suc n) e = absurd (omega arith)
@@ -28,7 +28,7 @@ last_worker : (xs : List (List DeskView)) (x : List DeskView) → slice_get (xs 
 last_worker [] x = refl
 last_worker (y ∷ xs) x = last_worker xs x
 
--- ---- seats that are made beside others
+-- ---- seats that are split
 
 pub halve_none : (views : List DeskView) → Halve views views []
 halve_none views = record { each = λ d point h. inl h }
@@ -55,18 +55,18 @@ halve_more specs olds mids news made at one long s h = record { each = λ d poin
       has = subst (λ (v : DeskView). owns v.share point ≡ true) (sym s.ends.1) p;
     })
 
-    by_place : (d : ℕ) (point : ℕ → Bool) → HasPoint mids d point → (d ≡ at) ⊎ (d ≡ at → ⊥) → HasPoint news d point ⊎ HasPoint (made ++ one ∷ []) d point
-    by_place d point p (inl e) =
+    by_position : (d : ℕ) (point : ℕ → Bool) → HasPoint mids d point → (d ≡ at) ⊎ (d ≡ at → ⊥) → HasPoint news d point ⊎ HasPoint (made ++ one ∷ []) d point
+    by_position d point p (inl e) =
         let is : p.view ≡ s.old = same_at mids at p.view s.old (subst (λ k. slice_get mids k ≡ Some p.view) e p.there) s.old_there in
         by_half d point e (in_a_half s.old.share point (subst (λ (v : DeskView). owns v.share point ≡ true) is p.has))
-    by_place d point p (inr n) = inl (record {
+    by_position d point p (inr n) = inl (record {
       view = p.view;
       there = ap (λ (l : List DeskView). slice_get l d) s.news_are ∙ (get_set_other mids d at s.new n ∙ p.there);
       has = p.has;
     })
 
     after : (d : ℕ) (point : ℕ → Bool) → HasPoint mids d point ⊎ HasPoint made d point → HasPoint news d point ⊎ HasPoint (made ++ one ∷ []) d point
-    after d point (inl p) = by_place d point p (same_or_other d at)
+    after d point (inl p) = by_position d point p (same_or_other d at)
     after d point (inr p) = inr (more_made made one d point p)
 
 -- ---- workers
@@ -74,7 +74,7 @@ halve_more specs olds mids news made at one long s h = record { each = λ d poin
 pub spread_none : (views : List DeskView) → Spread views views []
 spread_none views = record { each = λ d point h. inl h }
 
--- one more worker, whose seats were made beside these
+-- one more worker, whose seats were split from these
 pub spread_more : (olds mids news made : List DeskView) (workers : List (List DeskView)) → Spread olds mids workers → Halve mids news made → Spread olds news (workers ++ made ∷ [])
 spread_more olds mids news made workers s h = record { each = λ d point p. after d point (s.each d point p) }
   where
@@ -103,9 +103,9 @@ spread_done olds news workers dones e s = record { each = λ d point p. after d 
         let w = some_at dones p.worker (let n = e.0 in omega arith) in
         inr (record { worker = p.worker; views = w.0; there = w.1; has = point_stays p.views w.0 d point (e.1 p.worker p.views w.0 p.there w.1) p.has })
 
--- ---- seats that are taken in
+-- ---- seats that are joined
 
--- what a seat and another had, the one that took the other in has
+-- a seat into which another was joined has the points of both
 point_left : (specs : List PartSpec) (olds others news : List DeskView) (d : ℕ) (point : ℕ → Bool) → TakesIn specs olds others news → HasPoint olds d point → HasPoint news d point
 point_left specs olds others news d point t p =
     let l = slice_get_within olds d p.view p.there in
@@ -136,7 +136,7 @@ points_right specs olds (o ∷ workers) news d point zero views t a p =
     points_left specs t.0 workers news d point t.2 (point_right specs olds o t.0 d point t.1 (subst (λ (l : List DeskView). HasPoint l d point) (sym is) p))
 points_right specs olds (o ∷ workers) news d point (suc k) views t a p = points_right specs t.0 workers news d point k views t.2 a p
 
--- once all workers' seats are taken in, each seat has each point that it had
+-- once all workers' seats are joined, each seat has every point that it had before
 pub all_back_alone : (specs : List PartSpec) (olds mids : List DeskView) (workers : List (List DeskView)) (news : List DeskView) → length news ≡ length olds → Spread olds mids workers → TakeAllIn specs mids workers news → StayAlone olds news
 all_back_alone specs olds mids workers news n s t = (n, λ d v w a b. record { still = λ alone point. by_view d v w point b (back d point (s.each d point (record { view = v; there = a; has = alone point }))) })
   where

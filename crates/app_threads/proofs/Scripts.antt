@@ -1,4 +1,4 @@
--- A worker's next step, over what it did so far.
+-- A worker's next step, added to what it did so far.
 use Rattle.std.proofs.Common.{◌≡◌, ◌⊎◌, ℕ, Bool, true, false, cond, Some, None, List, [], ◌∷◌, ◌++◌, ◌+◌, ◌≤◌, take, length, get_or, slice_get, subst, sym, refl, ap, ◌∙◌, inl, inr, arith, append-nil, length-set}
 use Rattle.std.specs.Prelude.{All, if◌then◌else◌, ◌==◌, Result, Ok, Err}
 use Rattle.std.specs.List.{filter}
@@ -9,7 +9,7 @@ use Rattle.nook_data.specs.declared.desks.DeskRefused.TheVariants as refused
 use Rattle.nook_data.specs.declared.steps.Event.{Event}
 use Rattle.nook_data.specs.declared.steps.Event.TheVariants as event
 use Rattle.nook_data.specs.declared.calls.Op.{Op}
-use Rattle.nook_data.specs.Places.{at_number}
+use Rattle.nook_data.specs.Numbered.{at_number}
 use Rattle.nook_data.specs.declared.scenario.PartSpec.{PartSpec}
 use Rattle.nook_data.specs.declared.desks.Receipt.{Receipt}
 use Rattle.part_defs.specs.Runs.{state_of}
@@ -41,27 +41,27 @@ at_desks_more P Q R olds mids news f g h = (
       f d u v.0 w (g.1 d u v.0 i v.1) (h.1 d v.0 w v.1 j),
 )
 
--- one seat's step after what all did
+-- one seat's step after what all seats did
 pub step_more : (P Q : ℕ → DeskView → DeskView → Type 0) (specs : List PartSpec) (olds mids news : List DeskView) (part : ℕ) (Ends : PartSpec → DeskView → DeskView → Type 0) (s : IsStepAt specs mids news part Ends)
     → ((d : ℕ) (u v : DeskView) → (d ≡ part → ⊥) → P d u v → Q d u v) → ((u : DeskView) → P part u s.old → Q part u s.new)
     → AtDesks P olds mids → AtDesks Q olds news
 step_more P Q specs olds mids news part Ends s other same h =
-    (ap length s.news_are ∙ (length-set mids part s.new ∙ h.0), λ d u w i j. by_place d u w i j (same_or_other d part))
+    (ap length s.news_are ∙ (length-set mids part s.new ∙ h.0), λ d u w i j. by_position d u w i j (same_or_other d part))
   where
-    by_place : (d : ℕ) (u w : DeskView) → slice_get olds d ≡ Some u → slice_get news d ≡ Some w → (d ≡ part) ⊎ (d ≡ part → ⊥) → Q d u w
-    by_place d u w i j (inl e) =
+    by_position : (d : ℕ) (u w : DeskView) → slice_get olds d ≡ Some u → slice_get news d ≡ Some w → (d ≡ part) ⊎ (d ≡ part → ⊥) → Q d u w
+    by_position d u w i j (inl e) =
         let here : slice_get news part ≡ Some s.new = ap (λ (l : List DeskView). slice_get l part) s.news_are ∙ get_set_same mids part s.old s.new s.old_there in
         let is : s.new ≡ w = same_at news part s.new w here (subst (λ k. slice_get news k ≡ Some w) e j) in
         let q : Q part u s.new = same u (h.1 part u s.old (subst (λ k. slice_get olds k ≡ Some u) e i) s.old_there) in
         subst (λ k. Q k u w) (sym e) (subst (Q part u) is q)
-    by_place d u w i j (inr n) =
+    by_position d u w i j (inr n) =
         let there : slice_get mids d ≡ Some w = sym (ap (λ (l : List DeskView). slice_get l d) s.news_are ∙ get_set_other mids d part s.new n) ∙ j in
         other d u w n (h.1 d u w i there)
 
 abbrev pub SeesMore : ℕ → DeskView → DeskView → Type 0
 SeesMore d v w = IsPrefix v.seen w.seen
 
--- what is so of each seat that a step left as it was, and of the one that it changed
+-- what holds for each seat that a step left as it was, and for the one that it changed
 pub step_each : (R : ℕ → DeskView → DeskView → Type 0) (specs : List PartSpec) (mids news : List DeskView) (part : ℕ) (Ends : PartSpec → DeskView → DeskView → Type 0) (s : IsStepAt specs mids news part Ends)
     → ((d : ℕ) (v : DeskView) → R d v v) → R part s.old s.new → AtDesks R mids news
 step_each R specs mids news part Ends s stays changed =
@@ -69,7 +69,7 @@ step_each R specs mids news part Ends s stays changed =
     (λ d u v n e. subst (R d u) e (stays d u)) (λ u e. subst (λ (v : DeskView). R part v s.new) (sym e) changed)
     (at_desks_refl (λ d u v. u ≡ v) mids (λ d v. refl))
 
--- what a step lets each seat see
+-- after a step each seat has seen at least as much as before
 pub step_sees : (specs : List PartSpec) (mids news : List DeskView) (part : ℕ) (Ends : PartSpec → DeskView → DeskView → Type 0) (s : IsStepAt specs mids news part Ends)
     → IsPrefix s.old.seen s.new.seen → AtDesks SeesMore mids news
 step_sees specs mids news part Ends s p = step_each SeesMore specs mids news part Ends s (λ d v. prefix_refl v.seen) p
@@ -114,7 +114,7 @@ invokes_push views thread d part op r (o ∷ ops) (q ∷ rs) h =
     elim (o.0 == d) as (λ b. cond b (q.at_invoke ∷ invokes_of d (ops ++ (part, op) ∷ []) (rs ++ r ∷ [])) (invokes_of d (ops ++ (part, op) ∷ []) (rs ++ r ∷ [])) ≡ cond b (q.at_invoke ∷ more) more ++ new)
     [ true ↦ ap (λ (l : List ℕ). q.at_invoke ∷ l) e | false ↦ e ]
 
--- ---- whose invocations
+-- ---- who made the invocations
 
 answered_grows : (seen more : List Event) (call : ℕ) → IsPrefix seen more → HasReply seen call → HasReply more call
 answered_grows seen more call p h = (h.0, h.1, is_at_grows seen more h.0 (IsReply call h.1) p h.2)
@@ -126,17 +126,17 @@ own_grows seen more thread (event.Burst context c burst count end acts answer fa
 own_grows seen more thread (event.Stage stage answers released) p h = h
 own_grows seen more thread (event.Arrive frame kept) p h = h
 
-pub is_at_weaker : (seen : List Event) (place : ℕ) (P Q : Event → Type 0) → ((e : Event) → P e → Q e) → IsAt seen place P → IsAt seen place Q
-is_at_weaker seen place P Q f h = record { event = h.event; there = h.there; is = f h.event h.is }
+pub is_at_weaker : (seen : List Event) (number : ℕ) (P Q : Event → Type 0) → ((e : Event) → P e → Q e) → IsAt seen number P → IsAt seen number Q
+is_at_weaker seen number P Q f h = record { event = h.event; there = h.there; is = f h.event h.is }
 
-all_own_grow : (seen more : List Event) (thread : ℕ) (places : List ℕ) → IsPrefix seen more → All (λ place. IsAt seen place (λ e. IsBy thread e × HasReplyIn seen e)) places → All (λ place. IsAt more place (λ e. IsBy thread e × HasReplyIn more e)) places
-all_own_grow seen more thread places p h =
-    All-weaker (λ place. IsAt seen place (λ e. IsBy thread e × HasReplyIn seen e)) (λ place. IsAt more place (λ e. IsBy thread e × HasReplyIn more e))
-    (λ place k. is_at_weaker more place (λ e. IsBy thread e × HasReplyIn seen e) (λ e. IsBy thread e × HasReplyIn more e) (λ e m. own_grows seen more thread e p m)
-    (is_at_grows seen more place (λ e. IsBy thread e × HasReplyIn seen e) p k)) places h
+all_own_grow : (seen more : List Event) (thread : ℕ) (numbers : List ℕ) → IsPrefix seen more → All (λ number. IsAt seen number (λ e. IsBy thread e × HasReplyIn seen e)) numbers → All (λ number. IsAt more number (λ e. IsBy thread e × HasReplyIn more e)) numbers
+all_own_grow seen more thread numbers p h =
+    All-weaker (λ number. IsAt seen number (λ e. IsBy thread e × HasReplyIn seen e)) (λ number. IsAt more number (λ e. IsBy thread e × HasReplyIn more e))
+    (λ number k. is_at_weaker more number (λ e. IsBy thread e × HasReplyIn seen e) (λ e. IsBy thread e × HasReplyIn more e) (λ e m. own_grows seen more thread e p m)
+    (is_at_grows seen more number (λ e. IsBy thread e × HasReplyIn seen e) p k)) numbers h
 
-pub all_by_grow : (seen more : List Event) (P : Event → Type 0) (places : List ℕ) → IsPrefix seen more → All (λ place. IsAt seen place P) places → All (λ place. IsAt more place P) places
-all_by_grow seen more P places p h = All-weaker (λ place. IsAt seen place P) (λ place. IsAt more place P) (λ place k. is_at_grows seen more place P p k) places h
+pub all_by_grow : (seen more : List Event) (P : Event → Type 0) (numbers : List ℕ) → IsPrefix seen more → All (λ number. IsAt seen number P) numbers → All (λ number. IsAt more number P) numbers
+all_by_grow seen more P numbers p h = All-weaker (λ number. IsAt seen number P) (λ number. IsAt more number P) (λ number k. is_at_grows seen more number P p k) numbers h
 
 invoke_own : (seen : List Event) (call thread : ℕ) (op : Op) (e : Event) → HasReply seen call → IsInvoke call thread op e → IsBy thread e × HasReplyIn seen e
 invoke_own seen call thread op (event.Invoke c t o answer) a h = (h.1, subst (HasReply seen) (sym h.0) a)
@@ -160,34 +160,34 @@ other_own seen thread (event.Stage stage answers released) h = (tt, tt)
 other_own seen thread (event.Arrive frame kept) h = absurd h
 
 owns_none : (thread : ℕ) (v : DeskView) → Owns thread v v
-owns_none thread v none = subst (λ (l : List ℕ). All (λ place. IsAt v.seen place (λ e. IsBy thread e × HasReplyIn v.seen e)) l) (sym none) (All-nil (λ place. IsAt v.seen place (λ e. IsBy thread e × HasReplyIn v.seen e)))
+owns_none thread v none = subst (λ (l : List ℕ). All (λ number. IsAt v.seen number (λ e. IsBy thread e × HasReplyIn v.seen e)) l) (sym none) (All-nil (λ number. IsAt v.seen number (λ e. IsBy thread e × HasReplyIn v.seen e)))
 
 owns_made : (thread : ℕ) (v w : DeskView) → Owns thread v w → MadeBy thread v w
 owns_made thread v w h none =
-    All-weaker (λ place. IsAt w.seen place (λ e. IsBy thread e × HasReplyIn w.seen e)) (λ place. IsAt w.seen place (IsBy thread))
-    (λ place k. is_at_weaker w.seen place (λ e. IsBy thread e × HasReplyIn w.seen e) (IsBy thread) (λ e m. m.0) k) w.made (h none)
+    All-weaker (λ number. IsAt w.seen number (λ e. IsBy thread e × HasReplyIn w.seen e)) (λ number. IsAt w.seen number (IsBy thread))
+    (λ number k. is_at_weaker w.seen number (λ e. IsBy thread e × HasReplyIn w.seen e) (IsBy thread) (λ e m. m.0) k) w.made (h none)
 
 owns_call : (thread : ℕ) (u v w : DeskView) (op : Op) (r : Receipt) → Invokes v w r.call thread op r.at_invoke → IsReceipt w.seen thread op r → Owns thread u v → Owns thread u w
 owns_call thread u v w op r i k h none =
-    let P : ℕ → Type 0 = λ place. IsAt w.seen place (λ e. IsBy thread e × HasReplyIn w.seen e) in
+    let P : ℕ → Type 0 = λ number. IsAt w.seen number (λ e. IsBy thread e × HasReplyIn w.seen e) in
     let first : P r.at_invoke = is_at_weaker w.seen r.at_invoke (IsInvoke r.call thread op) (λ e. IsBy thread e × HasReplyIn w.seen e) (λ e m. invoke_own w.seen r.call thread op e (r.at_reply, r.answer, k.answered) m) i.invoked in
-    let rest : All P i.others = All-weaker (λ place. IsAt w.seen place IsOther) P (λ place m. is_at_weaker w.seen place IsOther (λ e. IsBy thread e × HasReplyIn w.seen e) (other_own w.seen thread) m) i.others i.rest in
+    let rest : All P i.others = All-weaker (λ number. IsAt w.seen number IsOther) P (λ number m. is_at_weaker w.seen number IsOther (λ e. IsBy thread e × HasReplyIn w.seen e) (other_own w.seen thread) m) i.others i.rest in
     subst (λ (l : List ℕ). All P l) (sym i.adds.made)
     (All-append P v.made (r.at_invoke ∷ i.others) (all_own_grow v.seen w.seen thread v.made i.adds.seen (h none)) (All-cons P r.at_invoke i.others first rest))
 
 made_nothing : (thread : ℕ) (u v w : DeskView) → AddsNothing v w → MadeBy thread u v → MadeBy thread u w
 made_nothing thread u v w a h none =
-    subst (λ (l : List ℕ). All (λ place. IsAt w.seen place (IsBy thread)) l) (sym (a.made ∙ append-nil v.made)) (all_by_grow v.seen w.seen (IsBy thread) v.made a.seen (h none))
+    subst (λ (l : List ℕ). All (λ number. IsAt w.seen number (IsBy thread)) l) (sym (a.made ∙ append-nil v.made)) (all_by_grow v.seen w.seen (IsBy thread) v.made a.seen (h none))
 
 made_call : (thread : ℕ) (u v w : DeskView) (call : ℕ) (op : Op) (at : ℕ) → Invokes v w call thread op at → MadeBy thread u v → MadeBy thread u w
 made_call thread u v w call op at i h none =
-    let P : ℕ → Type 0 = λ place. IsAt w.seen place (IsBy thread) in
+    let P : ℕ → Type 0 = λ number. IsAt w.seen number (IsBy thread) in
     let first : P at = is_at_weaker w.seen at (IsInvoke call thread op) (IsBy thread) (λ e m. invoke_by call thread op e m) i.invoked in
-    let rest : All P i.others = All-weaker (λ place. IsAt w.seen place IsOther) P (λ place m. is_at_weaker w.seen place IsOther (IsBy thread) (λ e n. (other_own w.seen thread e n).0) m) i.others i.rest in
+    let rest : All P i.others = All-weaker (λ number. IsAt w.seen number IsOther) P (λ number m. is_at_weaker w.seen number IsOther (IsBy thread) (λ e n. (other_own w.seen thread e n).0) m) i.others i.rest in
     subst (λ (l : List ℕ). All P l) (sym i.adds.made)
     (All-append P v.made (at ∷ i.others) (all_by_grow v.seen w.seen (IsBy thread) v.made i.adds.seen (h none)) (All-cons P at i.others first rest))
 
--- where no invocation was gained, none is of another thread
+-- if no invocation was gained, none is by another thread
 not_invoke_by : (thread : ℕ) (e : Event) → is_invoke (Some e) ≡ false → IsBy thread e
 not_invoke_by thread (event.Invoke c t o answer) h = absurd cc
 not_invoke_by thread (event.Enter c t attempt answer) h = tt
@@ -195,22 +195,22 @@ not_invoke_by thread (event.Burst context c burst count end acts answer failure)
 not_invoke_by thread (event.Stage stage answers released) h = tt
 not_invoke_by thread (event.Arrive frame kept) h = tt
 
-none_filtered : (f : ℕ → Bool) (places : List ℕ) → filter f places ≡ [] → All (λ place. f place ≡ false) places
-none_filtered f [] h = All-nil (λ place. f place ≡ false)
+none_filtered : (f : ℕ → Bool) (numbers : List ℕ) → filter f numbers ≡ [] → All (λ number. f number ≡ false) numbers
+none_filtered f [] h = All-nil (λ number. f number ≡ false)
 none_filtered f (p ∷ ps) h = by_test (f p) refl (none_filtered f ps)
   where
-    by_test : (b : Bool) → f p ≡ b → (filter f ps ≡ [] → All (λ place. f place ≡ false) ps) → All (λ place. f place ≡ false) (p ∷ ps)
+    by_test : (b : Bool) → f p ≡ b → (filter f ps ≡ [] → All (λ number. f number ≡ false) ps) → All (λ number. f number ≡ false) (p ∷ ps)
     by_test true q later = absurd (let e : p ∷ filter f ps ≡ [] = sym (ap (λ b. cond b (p ∷ filter f ps) (filter f ps)) q) ∙ h in cc)
-    by_test false q later = All-cons (λ place. f place ≡ false) p ps q (later (sym (ap (λ b. cond b (p ∷ filter f ps) (filter f ps)) q) ∙ h))
+    by_test false q later = All-cons (λ number. f number ≡ false) p ps q (later (sym (ap (λ b. cond b (p ∷ filter f ps) (filter f ps)) q) ∙ h))
 
 frames_made_by : (thread : ℕ) (v w : DeskView) (fs : List (List ℕ)) → Does v w [] fs → MadeBy thread v w
 frames_made_by thread v w fs h none =
-    let places = h.gains.places in
-    let quiet = none_filtered (λ place. is_invoke (at_number place w.seen)) places h.gains.invoked in
-    let all : All (λ place. IsAt w.seen place (IsBy thread)) places = λ k d l.
-    let e = event_there w.seen (get_or places k d) (h.gains.grows.there k d l) in
+    let numbers = h.gains.numbers in
+    let quiet = none_filtered (λ number. is_invoke (at_number number w.seen)) numbers h.gains.invoked in
+    let all : All (λ number. IsAt w.seen number (IsBy thread)) numbers = λ k d l.
+    let e = event_there w.seen (get_or numbers k d) (h.gains.grows.there k d l) in
     record { event = e.0; there = e.1; is = not_invoke_by thread e.0 (ap is_invoke (sym e.1) ∙ quiet k d l) } in
-    subst (λ (l : List ℕ). All (λ place. IsAt w.seen place (IsBy thread)) l) (sym (h.gains.grows.made ∙ ap (λ (m : List ℕ). m ++ places) none)) all
+    subst (λ (l : List ℕ). All (λ number. IsAt w.seen number (IsBy thread)) l) (sym (h.gains.grows.made ∙ ap (λ (m : List ℕ). m ++ numbers) none)) all
 
 pub at_desks_both : (P Q : ℕ → DeskView → DeskView → Type 0) (olds news : List DeskView) → AtDesks P olds news → AtDesks Q olds news → AtDesks (λ d v w. P d v w × Q d v w) olds news
 at_desks_both P Q olds news h k = (h.0, λ d v w i j. (h.1 d v w i j, k.1 d v w i j))
@@ -220,9 +220,9 @@ at_desks_both P Q olds news h k = (h.0, λ d v w i j. (h.1 d v w i j, k.1 d v w 
 pub ops_none : (views : List DeskView) (thread : ℕ) → DoesOps views views thread [] []
 ops_none views thread = record { receipts_are = tt; does = at_desks_refl (λ d v w. Does v w [] []) views (λ d v. does_none v); own = at_desks_refl (λ d v w. Owns thread v w) views (λ d v. owns_none thread v) }
 
-pub ops_more : (specs : List PartSpec) (olds mids news : List DeskView) (thread place part : ℕ) (op : Op) (r : Receipt) (ops : List (ℕ × Op)) (rs : List Receipt)
-    → DoesOps olds mids thread ops rs → IsStepAt specs mids news part (λ spec v w. NextCallEnds spec v w thread place part op (Ok r)) → DoesOps olds news thread (ops ++ (part, op) ∷ []) (rs ++ r ∷ [])
-ops_more specs olds mids news thread place part op r ops rs h s = record {
+pub ops_more : (specs : List PartSpec) (olds mids news : List DeskView) (thread number part : ℕ) (op : Op) (r : Receipt) (ops : List (ℕ × Op)) (rs : List Receipt)
+    → DoesOps olds mids thread ops rs → IsStepAt specs mids news part (λ spec v w. NextCallEnds spec v w thread number part op (Ok r)) → DoesOps olds news thread (ops ++ (part, op) ∷ []) (rs ++ r ∷ [])
+ops_more specs olds mids news thread number part op r ops rs h s = record {
   receipts_are =
       receipts_push news thread part op r ops rs
       (receipts_grow mids news thread ops rs (step_sees specs mids news part _ s s.ends.0.adds.seen) h.receipts_are)
@@ -246,7 +246,7 @@ pub ops_made : (olds news : List DeskView) (thread : ℕ) (ops : List (ℕ × Op
 ops_made olds news thread ops rs h =
     at_desks_weaker (λ d v w. Owns thread v w) (λ d v w. MadeBy thread v w) olds news (λ d v w k. owns_made thread v w k) h.own
 
--- a worker that did some operations of a script gained at most what they are
+-- a worker that did some operations of a script gained at most as many invocations as these
 ops_grew : (olds news : List DeskView) (thread : ℕ) (most : ℕ → ℕ) (ops : List (ℕ × Op)) (rs : List Receipt) → ((d : ℕ) → count_on d ops ≤ most d) → DoesOps olds news thread ops rs
     → AtDesks (λ d v w. GrewBy thread (most d) 0 v w) olds news
 ops_grew olds news thread most ops rs few h =
@@ -269,7 +269,7 @@ refused_call spec v w thread op (refused.OpenCall call) h = (nothing_of_one v w 
 refused_call spec v w thread op refused.NoOpenCall h = absurd h
 refused_call spec v w thread op refused.TooManyArrivals h = absurd h
 
--- a step that is refused, after what all did: one part may have had one more call
+-- a step that is refused, after what all seats did: one part may have one more call
 refused_at : (thread one : ℕ) (calls most frames : ℕ → ℕ) (specs : List PartSpec) (olds mids news : List DeskView) (part : ℕ) (Ends : PartSpec → DeskView → DeskView → Type 0) (Cause : PartState → Type 0) (s : IsStepAt specs mids news part Ends)
     → ((d : ℕ) → calls d ≤ most d) → calls part + one ≤ most part → AtDesks (λ d v w. GrewBy thread (calls d) (frames d) v w) olds mids → GainsAtMost s.old s.new one 0
     → ((u : DeskView) → MadeBy thread u s.old → MadeBy thread u s.new) → Cause (state_of s.spec s.new.seen)
@@ -298,7 +298,7 @@ refused_at thread one calls most frames specs olds mids news part Ends Cause s f
       },
     )
 
--- an open call is none of those that the worker invoked, since these were answered
+-- an open call is none of those that the worker invoked, because these were answered
 knows_open : (specs : List PartSpec) (olds mids news : List DeskView) (thread part : ℕ) (op : Op) (refusal : DeskRefused)
     → AtDesks (λ d v w. Owns thread v w) olds mids → IsStepAt specs mids news part (λ spec v w. CallEnds spec v w thread op (Err refusal)) → KnowsOpen specs olds news thread part refusal
 knows_open specs olds mids news thread part op (refused.OpenCall call) h s =
@@ -315,23 +315,23 @@ knows_open specs olds mids news thread part op (refused.OpenCall call) h s =
       open_call = s.ends.1;
       answered = λ none.
           let own = all_own_grow s.old.seen s.new.seen thread s.old.made added.seen (h.1 part u.0 s.old u.1 s.old_there none) in
-          let answered = All-weaker (λ place. IsAt s.new.seen place (λ e. IsBy thread e × HasReplyIn s.new.seen e)) (λ place. IsAt s.new.seen place (HasReplyIn s.new.seen))
-          (λ place k. is_at_weaker s.new.seen place (λ e. IsBy thread e × HasReplyIn s.new.seen e) (HasReplyIn s.new.seen) (λ e m. m.1) k) s.old.made own in
-          subst (λ (l : List ℕ). All (λ place. IsAt s.new.seen place (HasReplyIn s.new.seen)) l) (sym (added.made ∙ append-nil s.old.made)) answered;
+          let answered = All-weaker (λ number. IsAt s.new.seen number (λ e. IsBy thread e × HasReplyIn s.new.seen e)) (λ number. IsAt s.new.seen number (HasReplyIn s.new.seen))
+          (λ number k. is_at_weaker s.new.seen number (λ e. IsBy thread e × HasReplyIn s.new.seen e) (HasReplyIn s.new.seen) (λ e m. m.1) k) s.old.made own in
+          subst (λ (l : List ℕ). All (λ number. IsAt s.new.seen number (HasReplyIn s.new.seen)) l) (sym (added.made ∙ append-nil s.old.made)) answered;
     }
 knows_open specs olds mids news thread part op (refused.NoMemory call) h s = tt
 knows_open specs olds mids news thread part op refused.TooManyCalls h s = tt
 knows_open specs olds mids news thread part op refused.NoOpenCall h s = tt
 knows_open specs olds mids news thread part op refused.TooManyArrivals h s = tt
 
-ops_refused : (specs : List PartSpec) (olds mids news : List DeskView) (thread place part : ℕ) (op : Op) (refusal : DeskRefused) (all : List (ℕ × Op)) (rs : List Receipt)
-    → DoesOps olds mids thread (take place all) rs → slice_get all place ≡ Some (part, op) → IsStepAt specs mids news part (λ spec v w. CallEnds spec v w thread op (Err refusal))
-    → AtDesks (λ d v w. GrewBy thread (count_on d all) 0 v w) olds news × IsCallRefused specs olds news all thread place part refusal × KnowsOpen specs olds news thread part refusal
-ops_refused specs olds mids news thread place part op refusal all rs h at s =
+ops_refused : (specs : List PartSpec) (olds mids news : List DeskView) (thread number part : ℕ) (op : Op) (refusal : DeskRefused) (all : List (ℕ × Op)) (rs : List Receipt)
+    → DoesOps olds mids thread (take number all) rs → slice_get all number ≡ Some (part, op) → IsStepAt specs mids news part (λ spec v w. CallEnds spec v w thread op (Err refusal))
+    → AtDesks (λ d v w. GrewBy thread (count_on d all) 0 v w) olds news × IsCallRefused specs olds news all thread number part refusal × KnowsOpen specs olds news thread part refusal
+ops_refused specs olds mids news thread number part op refusal all rs h at s =
     let k = refused_call s.spec s.old s.new thread op refusal s.ends in
-    let sofar : ℕ → ℕ = λ d. count_on d (take place all) in
-    let r = refused_at thread 1 sofar (λ d. count_on d all) (λ d. 0) specs olds mids news part _ (CallCause thread refusal) s (λ d. count_take d place all) (count_next all place part op at)
-    (ops_grew olds mids thread sofar (take place all) rs (λ d. omega arith) h) k.0 k.2 k.1 in
+    let sofar : ℕ → ℕ = λ d. count_on d (take number all) in
+    let r = refused_at thread 1 sofar (λ d. count_on d all) (λ d. 0) specs olds mids news part _ (CallCause thread refusal) s (λ d. count_take d number all) (count_next all number part op at)
+    (ops_grew olds mids thread sofar (take number all) rs (λ d. omega arith) h) k.0 k.2 k.1 in
     (r.0, record { op = op; operation = at; cause = r.1 }, knows_open specs olds mids news thread part op refusal h.own s)
 
 -- ---- the next arrival
@@ -343,9 +343,9 @@ frames_none views part = at_desks_refl (λ d v w. Does v w [] (if part == d then
     none true = refl
     none false = refl
 
-pub frames_more : (specs : List PartSpec) (olds mids news : List DeskView) (place part : ℕ) (frame : List ℕ) (kept : Bool) (fs : List (List ℕ))
-    → DoesFrames olds mids part fs → IsStepAt specs mids news part (λ spec v w. NextArrivalEnds spec v w place part frame (Ok kept)) → DoesFrames olds news part (fs ++ frame ∷ [])
-frames_more specs olds mids news place part frame kept fs h s =
+pub frames_more : (specs : List PartSpec) (olds mids news : List DeskView) (number part : ℕ) (frame : List ℕ) (kept : Bool) (fs : List (List ℕ))
+    → DoesFrames olds mids part fs → IsStepAt specs mids news part (λ spec v w. NextArrivalEnds spec v w number part frame (Ok kept)) → DoesFrames olds news part (fs ++ frame ∷ [])
+frames_more specs olds mids news number part frame kept fs h s =
     step_more (λ d v w. Does v w [] (if part == d then fs else [])) (λ d v w. Does v w [] (if part == d then fs ++ frame ∷ [] else [])) specs olds mids news part _ s
     (λ d u v n k.
     subst (λ (gs : List (List ℕ)). Does u v [] gs) (if_other part d fs [] (λ e. n (sym e)) ∙ sym (if_other part d (fs ++ frame ∷ []) [] (λ e. n (sym e)))) k)
@@ -379,50 +379,50 @@ refused_arrival spec v w frame (refused.OpenCall call) h = absurd h
 refused_arrival spec v w frame refused.NoOpenCall h = absurd h
 refused_arrival spec v w frame refused.TooManyArrivals h = (nothing_at_most v w h.0, h.1, λ u m. made_nothing 255 u v w h.0 m)
 
-frames_refused : (specs : List PartSpec) (olds mids news : List DeskView) (place part : ℕ) (frame : List ℕ) (refusal : DeskRefused) (all fs : List (List ℕ))
-    → length fs ≤ length all → DoesFrames olds mids part fs → slice_get all place ≡ Some frame → IsStepAt specs mids news part (λ spec v w. ArriveEnds spec v w frame (Err refusal))
-    → AtDesks (λ d v w. GrewBy 255 0 (length (if part == d then all else [])) v w) olds news × IsArrivalRefused specs olds news all place part refusal
-frames_refused specs olds mids news place part frame refusal all fs few h at s =
+frames_refused : (specs : List PartSpec) (olds mids news : List DeskView) (number part : ℕ) (frame : List ℕ) (refusal : DeskRefused) (all fs : List (List ℕ))
+    → length fs ≤ length all → DoesFrames olds mids part fs → slice_get all number ≡ Some frame → IsStepAt specs mids news part (λ spec v w. ArriveEnds spec v w frame (Err refusal))
+    → AtDesks (λ d v w. GrewBy 255 0 (length (if part == d then all else [])) v w) olds news × IsArrivalRefused specs olds news all number part refusal
+frames_refused specs olds mids news number part frame refusal all fs few h at s =
     let k = refused_arrival s.spec s.old s.new frame refusal s.ends in
     let r = refused_at 255 0 (λ d. 0) (λ d. 0) (λ d. length (if part == d then all else [])) specs olds mids news part _ (ArriveCause refusal) s (λ d. omega arith) (omega arith)
     (frames_grew olds mids part fs all few h) k.0 k.2 k.1 in
-    (r.0, record { frame = slice_get_within all place frame at; cause = r.1 })
+    (r.0, record { frame = slice_get_within all number frame at; cause = r.1 })
 
 -- ---- how workers end
 
 pub ops_ended : (specs : List PartSpec) (olds news : List DeskView) (thread : ℕ) (ops : List (ℕ × Op)) (rs : List Receipt) → DoesOps olds news thread ops rs → ScriptEnds specs olds news thread ops (Ok rs)
 ops_ended specs olds news thread ops rs h = (h, ops_made olds news thread ops rs h)
 
-pub ops_stopped : (specs : List PartSpec) (olds mids news : List DeskView) (thread place part : ℕ) (op : Op) (all : List (ℕ × Op)) (rs : List Receipt) (why : WorkerStop)
-    → DoesOps olds mids thread (take place all) rs → slice_get all place ≡ Some (part, op) → IsStepAt specs mids news part (λ spec v w. NextCallEnds spec v w thread place part op (Err why))
+pub ops_stopped : (specs : List PartSpec) (olds mids news : List DeskView) (thread number part : ℕ) (op : Op) (all : List (ℕ × Op)) (rs : List Receipt) (why : WorkerStop)
+    → DoesOps olds mids thread (take number all) rs → slice_get all number ≡ Some (part, op) → IsStepAt specs mids news part (λ spec v w. NextCallEnds spec v w thread number part op (Err why))
     → ScriptEnds specs olds news thread all (Err why)
-ops_stopped specs olds mids news thread place part op all rs (stop.Refused t k p refusal) h at s =
-    let r = ops_refused specs olds mids news thread place part op refusal all rs h at (record { spec = s.spec; old = s.old; new = s.new; spec_there = s.spec_there; old_there = s.old_there; news_are = s.news_are; ends = s.ends.3 }) in (
+ops_stopped specs olds mids news thread number part op all rs (stop.Refused t k p refusal) h at s =
+    let r = ops_refused specs olds mids news thread number part op refusal all rs h at (record { spec = s.spec; old = s.old; new = s.new; spec_there = s.spec_there; old_there = s.old_there; news_are = s.news_are; ends = s.ends.3 }) in (
       r.0,
       s.ends.0,
       subst (λ q. IsCallRefused specs olds news all thread k q refusal) (sym s.ends.2) (subst (λ j. IsCallRefused specs olds news all thread j part refusal) (sym s.ends.1) r.1),
       subst (λ q. KnowsOpen specs olds news thread q refusal) (sym s.ends.2) r.2,
     )
-ops_stopped specs olds mids news thread place part op all rs stop.NoMemory h at s = absurd s.ends
+ops_stopped specs olds mids news thread number part op all rs stop.NoMemory h at s = absurd s.ends
 
-pub ops_unkept : (specs : List PartSpec) (olds mids news : List DeskView) (thread place part : ℕ) (op : Op) (r : Receipt) (all : List (ℕ × Op)) (rs : List Receipt)
-    → DoesOps olds mids thread (take place all) rs → slice_get all place ≡ Some (part, op) → IsStepAt specs mids news part (λ spec v w. NextCallEnds spec v w thread place part op (Ok r))
+pub ops_unkept : (specs : List PartSpec) (olds mids news : List DeskView) (thread number part : ℕ) (op : Op) (r : Receipt) (all : List (ℕ × Op)) (rs : List Receipt)
+    → DoesOps olds mids thread (take number all) rs → slice_get all number ≡ Some (part, op) → IsStepAt specs mids news part (λ spec v w. NextCallEnds spec v w thread number part op (Ok r))
     → ScriptEnds specs olds news thread all (Err stop.NoMemory)
-ops_unkept specs olds mids news thread place part op r all rs h at s =
-    ops_grew olds news thread (λ d. count_on d all) (take place all ++ (part, op) ∷ []) (rs ++ r ∷ [])
-    (λ d. let few = count_take d (place + 1) all in omega (arith, few, ap (count_on d) (take_next all place (part, op) at)))
-    (ops_more specs olds mids news thread place part op r (take place all) rs h s)
+ops_unkept specs olds mids news thread number part op r all rs h at s =
+    ops_grew olds news thread (λ d. count_on d all) (take number all ++ (part, op) ∷ []) (rs ++ r ∷ [])
+    (λ d. let few = count_take d (number + 1) all in omega (arith, few, ap (count_on d) (take_next all number (part, op) at)))
+    (ops_more specs olds mids news thread number part op r (take number all) rs h s)
 
 pub frames_ended : (specs : List PartSpec) (olds news : List DeskView) (part : ℕ) (fs : List (List ℕ)) (rs : List Receipt) → rs ≡ [] → DoesFrames olds news part fs → ArrivalsEnd specs olds news part fs (Ok rs)
 frames_ended specs olds news part fs rs e h = (e, h, frames_made olds news part fs h)
 
-pub frames_stopped : (specs : List PartSpec) (olds mids news : List DeskView) (place part : ℕ) (frame : List ℕ) (all fs : List (List ℕ)) (why : WorkerStop)
-    → length fs ≤ length all → DoesFrames olds mids part fs → slice_get all place ≡ Some frame → IsStepAt specs mids news part (λ spec v w. NextArrivalEnds spec v w place part frame (Err why))
+pub frames_stopped : (specs : List PartSpec) (olds mids news : List DeskView) (number part : ℕ) (frame : List ℕ) (all fs : List (List ℕ)) (why : WorkerStop)
+    → length fs ≤ length all → DoesFrames olds mids part fs → slice_get all number ≡ Some frame → IsStepAt specs mids news part (λ spec v w. NextArrivalEnds spec v w number part frame (Err why))
     → ArrivalsEnd specs olds news part all (Err why)
-frames_stopped specs olds mids news place part frame all fs (stop.Refused t k p refusal) few h at s =
-    let r = frames_refused specs olds mids news place part frame refusal all fs few h at (record { spec = s.spec; old = s.old; new = s.new; spec_there = s.spec_there; old_there = s.old_there; news_are = s.news_are; ends = s.ends.3 }) in
+frames_stopped specs olds mids news number part frame all fs (stop.Refused t k p refusal) few h at s =
+    let r = frames_refused specs olds mids news number part frame refusal all fs few h at (record { spec = s.spec; old = s.old; new = s.new; spec_there = s.spec_there; old_there = s.old_there; news_are = s.news_are; ends = s.ends.3 }) in
     (r.0, s.ends.0, s.ends.2, subst (λ j. IsArrivalRefused specs olds news all j part refusal) (sym s.ends.1) r.1)
-frames_stopped specs olds mids news place part frame all fs stop.NoMemory few h at s = absurd s.ends
+frames_stopped specs olds mids news number part frame all fs stop.NoMemory few h at s = absurd s.ends
 
 -- ---- shares
 
@@ -435,10 +435,10 @@ call_share spec v w thread op (Err (refused.OpenCall call)) h = h.0.share
 call_share spec v w thread op (Err refused.NoOpenCall) h = absurd h
 call_share spec v w thread op (Err refused.TooManyArrivals) h = absurd h
 
-next_share : (spec : PartSpec) (v w : DeskView) (thread place part : ℕ) (op : Op) (e : Result Receipt WorkerStop) → NextCallEnds spec v w thread place part op e → KeepsShare v w
-next_share spec v w thread place part op (Ok r) h = call_share spec v w thread op (Ok r) h
-next_share spec v w thread place part op (Err (stop.Refused t k p refusal)) h = call_share spec v w thread op (Err refusal) h.3
-next_share spec v w thread place part op (Err stop.NoMemory) h = absurd h
+next_share : (spec : PartSpec) (v w : DeskView) (thread number part : ℕ) (op : Op) (e : Result Receipt WorkerStop) → NextCallEnds spec v w thread number part op e → KeepsShare v w
+next_share spec v w thread number part op (Ok r) h = call_share spec v w thread op (Ok r) h
+next_share spec v w thread number part op (Err (stop.Refused t k p refusal)) h = call_share spec v w thread op (Err refusal) h.3
+next_share spec v w thread number part op (Err stop.NoMemory) h = absurd h
 
 arrive_share : (spec : PartSpec) (v w : DeskView) (frame : List ℕ) (e : Result Bool DeskRefused) → ArriveEnds spec v w frame e → KeepsShare v w
 arrive_share spec v w frame (Ok kept) h = h.1.share
@@ -449,10 +449,10 @@ arrive_share spec v w frame (Err (refused.OpenCall call)) h = absurd h
 arrive_share spec v w frame (Err refused.NoOpenCall) h = absurd h
 arrive_share spec v w frame (Err refused.TooManyArrivals) h = h.0.share
 
-next_arrival_share : (spec : PartSpec) (v w : DeskView) (place part : ℕ) (frame : List ℕ) (e : Result Bool WorkerStop) → NextArrivalEnds spec v w place part frame e → KeepsShare v w
-next_arrival_share spec v w place part frame (Ok kept) h = arrive_share spec v w frame (Ok kept) h
-next_arrival_share spec v w place part frame (Err (stop.Refused t k p refusal)) h = arrive_share spec v w frame (Err refusal) h.3
-next_arrival_share spec v w place part frame (Err stop.NoMemory) h = absurd h
+next_arrival_share : (spec : PartSpec) (v w : DeskView) (number part : ℕ) (frame : List ℕ) (e : Result Bool WorkerStop) → NextArrivalEnds spec v w number part frame e → KeepsShare v w
+next_arrival_share spec v w number part frame (Ok kept) h = arrive_share spec v w frame (Ok kept) h
+next_arrival_share spec v w number part frame (Err (stop.Refused t k p refusal)) h = arrive_share spec v w frame (Err refusal) h.3
+next_arrival_share spec v w number part frame (Err stop.NoMemory) h = absurd h
 
 share_step : (specs : List PartSpec) (olds mids news : List DeskView) (part : ℕ) (Ends : PartSpec → DeskView → DeskView → Type 0) (s : IsStepAt specs mids news part Ends)
     → KeepsShare s.old s.new → KeepShares olds mids → KeepShares olds news
@@ -462,10 +462,10 @@ share_step specs olds mids news part Ends s k h =
 pub shares_none : (views : List DeskView) → KeepShares views views
 shares_none views = at_desks_refl (λ d v w. KeepsShare v w) views (λ d v. refl)
 
-pub call_shares : (specs : List PartSpec) (olds mids news : List DeskView) (thread place part : ℕ) (op : Op) (e : Result Receipt WorkerStop)
-    → IsStepAt specs mids news part (λ spec v w. NextCallEnds spec v w thread place part op e) → KeepShares olds mids → KeepShares olds news
-call_shares specs olds mids news thread place part op e s h = share_step specs olds mids news part _ s (next_share s.spec s.old s.new thread place part op e s.ends) h
+pub call_shares : (specs : List PartSpec) (olds mids news : List DeskView) (thread number part : ℕ) (op : Op) (e : Result Receipt WorkerStop)
+    → IsStepAt specs mids news part (λ spec v w. NextCallEnds spec v w thread number part op e) → KeepShares olds mids → KeepShares olds news
+call_shares specs olds mids news thread number part op e s h = share_step specs olds mids news part _ s (next_share s.spec s.old s.new thread number part op e s.ends) h
 
-pub arrival_shares : (specs : List PartSpec) (olds mids news : List DeskView) (place part : ℕ) (frame : List ℕ) (e : Result Bool WorkerStop)
-    → IsStepAt specs mids news part (λ spec v w. NextArrivalEnds spec v w place part frame e) → KeepShares olds mids → KeepShares olds news
-arrival_shares specs olds mids news place part frame e s h = share_step specs olds mids news part _ s (next_arrival_share s.spec s.old s.new place part frame e s.ends) h
+pub arrival_shares : (specs : List PartSpec) (olds mids news : List DeskView) (number part : ℕ) (frame : List ℕ) (e : Result Bool WorkerStop)
+    → IsStepAt specs mids news part (λ spec v w. NextArrivalEnds spec v w number part frame e) → KeepShares olds mids → KeepShares olds news
+arrival_shares specs olds mids news number part frame e s h = share_step specs olds mids news part _ s (next_arrival_share s.spec s.old s.new number part frame e s.ends) h

@@ -23,9 +23,9 @@ step_at spec view ds ss i d s t Ends l n a b e = record {
   ends = e;
 }
 
--- ---- seats that come one by one
+-- ---- seats that are made one by one
 
--- the first so many desks have their seats
+-- this many of the first desks have their seats
 abbrev pub AreSeatsSoFar : {D S : Type 0} → (D → S → Type 0) → List D → List S → ℕ → Type 0
 AreSeatsSoFar {D} {S} is_seat desks seats count =
     (length seats ≡ count)
@@ -33,13 +33,13 @@ AreSeatsSoFar {D} {S} is_seat desks seats count =
 
 pub seats_pushed : {D S : Type 0} (is_seat : D → S → Type 0) (desks : List D) (seats : List S) (count : ℕ) (seat : S)
     → AreSeatsSoFar is_seat desks seats count → IsSeatAt is_seat desks count seat → AreSeatsSoFar is_seat desks (seats ++ seat ∷ []) (count + 1)
-seats_pushed {D} {S} is_seat desks seats count seat h k = (let n = h.0 in omega (arith, length_push seats seat), λ i d s l a b. by_place i d s l a b (same_or_other i count))
+seats_pushed {D} {S} is_seat desks seats count seat h k = (let n = h.0 in omega (arith, length_push seats seat), λ i d s l a b. by_position i d s l a b (same_or_other i count))
   where
-    by_place : (i : ℕ) (d : D) (s : S) → i < count + 1 → d ≡ get_or desks i d → s ≡ get_or (seats ++ seat ∷ []) i s → (i ≡ count) ⊎ (i ≡ count → ⊥) → is_seat d s
-    by_place i d s l a b (inl e) =
+    by_position : (i : ℕ) (d : D) (s : S) → i < count + 1 → d ≡ get_or desks i d → s ≡ get_or (seats ++ seat ∷ []) i s → (i ≡ count) ⊎ (i ≡ count → ⊥) → is_seat d s
+    by_position i d s l a b (inl e) =
         let is : s ≡ seat = b ∙ get_or_push seats seat s i (h.0 ∙ sym e) in
         subst (is_seat d) (sym is) (k d (subst (λ j. d ≡ get_or desks j d) e a))
-    by_place i d s l a b (inr n) = h.1 i d s (omega arith) a (b ∙ get_or_append_left seats (seat ∷ []) s i (let m = h.0 in omega arith))
+    by_position i d s l a b (inr n) = h.1 i d s (omega arith) a (b ∙ get_or_append_left seats (seat ∷ []) s i (let m = h.0 in omega arith))
 
 pub seats_popped : {D S : Type 0} (is_seat : D → S → Type 0) (desks : List D) (seats : List S) (count : ℕ) (seat : S)
     → AreSeatsSoFar is_seat desks (seats ++ seat ∷ []) (count + 1) → AreSeatsSoFar is_seat desks seats count × IsSeatAt is_seat desks count seat
@@ -49,9 +49,9 @@ seats_popped is_seat desks seats count seat h =
       λ d a. h.1 count d seat (omega arith) a (sym (get_or_push seats seat seat count n)),
     )
 
--- ---- seats that are taken in, from the last on
+-- ---- seats that are joined, from the last to the first
 
--- the seats from this place on took another in, and the others did not change
+-- from this index on, another seat was joined into each seat; the other seats did not change
 abbrev pub TakenFrom : ℕ → List PartSpec → List DeskView → List DeskView → List DeskView → Type 0
 TakenFrom from specs olds others news =
     (length news ≡ length olds)
@@ -63,23 +63,23 @@ pub taken_more : (at : ℕ) (specs : List PartSpec) (olds others mids news : Lis
 taken_more at specs olds others mids news o is s h = (
   ap length s.news_are ∙ (length-set mids at s.new ∙ h.0),
   (λ d l. unchanged d (omega arith) ∙ h.1 d (omega arith)),
-  λ d spec v p w l a b c e. by_place d spec v p w l a b c e (same_or_other d at),
+  λ d spec v p w l a b c e. by_position d spec v p w l a b c e (same_or_other d at),
 )
   where
     unchanged : (d : ℕ) → (d ≡ at → ⊥) → slice_get news d ≡ slice_get mids d
     unchanged d n = ap (λ (l : List DeskView). slice_get l d) s.news_are ∙ get_set_other mids d at s.new n
 
-    by_place : (d : ℕ) (spec : PartSpec) (v p w : DeskView) → at ≤ d → slice_get specs d ≡ Some spec → slice_get olds d ≡ Some v → slice_get others d ≡ Some p → slice_get news d ≡ Some w → (d ≡ at) ⊎ (d ≡ at → ⊥) → TakesInOne spec v p w
-    by_place d spec v p w l a b c e (inl q) =
+    by_position : (d : ℕ) (spec : PartSpec) (v p w : DeskView) → at ≤ d → slice_get specs d ≡ Some spec → slice_get olds d ≡ Some v → slice_get others d ≡ Some p → slice_get news d ≡ Some w → (d ≡ at) ⊎ (d ≡ at → ⊥) → TakesInOne spec v p w
+    by_position d spec v p w l a b c e (inl q) =
         let here : slice_get news at ≡ Some s.new = ap (λ (l : List DeskView). slice_get l at) s.news_are ∙ get_set_same mids at s.old s.new s.old_there in
         let spec_is : s.spec ≡ spec = same_at specs at s.spec spec s.spec_there (subst (λ k. slice_get specs k ≡ Some spec) q a) in
         let old_is : s.old ≡ v = same_at mids at s.old v s.old_there (h.1 at (omega arith) ∙ subst (λ k. slice_get olds k ≡ Some v) q b) in
         let other_is : o ≡ p = same_at others at o p is (subst (λ k. slice_get others k ≡ Some p) q c) in
         let new_is : s.new ≡ w = same_at news at s.new w here (subst (λ k. slice_get news k ≡ Some w) q e) in
         subst (λ x. TakesInOne x v p w) spec_is (subst (λ x. TakesInOne s.spec x p w) old_is (subst (λ x. TakesInOne s.spec s.old x w) other_is (subst (λ x. TakesInOne s.spec s.old o x) new_is s.ends)))
-    by_place d spec v p w l a b c e (inr n) = h.2 d spec v p w (omega arith) a b c (sym (unchanged d n) ∙ e)
+    by_position d spec v p w l a b c e (inr n) = h.2 d spec v p w (omega arith) a b c (sym (unchanged d n) ∙ e)
 
--- the last of a beginning
+-- the last item of a prefix
 pub views_popped : (xs all : List DeskView) (x : DeskView) (count : ℕ) → length xs ≡ count → xs ++ x ∷ [] ≡ take (count + 1) all → (xs ≡ take count all) × (slice_get all count ≡ Some x)
 views_popped xs all x count n e = (
   sym (take_at xs (x ∷ []) count n) ∙ (ap (take count) e ∙ take-take count (count + 1) all (omega arith)),

@@ -1,4 +1,4 @@
--- Seats that are made beside others, and the works of workers.
+-- Seats that are split from others, and the works of workers.
 use Rattle.std.proofs.Common.{◌≡◌, ◌⊎◌, ℕ, ◌+◌, ◌<◌, Some, List, [], ◌∷◌, ◌++◌, drop, length, slice_get, subst, sym, ap, ◌∙◌, inl, inr, arith, append_assoc, length-append}
 use Rattle.nook_data.specs.declared.scenario.PartSpec.{PartSpec}
 use Rattle.nook_data.specs.declared.scenario.ThreadSpec.{ThreadSpec}
@@ -36,17 +36,17 @@ pub clocked_more : (specs : List PartSpec) (olds mids news : List DeskView) (at 
 clocked_more specs olds mids news at made s h =
     step_more (λ d v w. KeepsClocked v w) (λ d v w. KeepsClocked v w) specs olds mids news at _ s (λ d u v n k. k) (λ u k. record { still = λ a. s.ends.3 }) h
 
--- the first so many seats have new ones beside them
+-- new seats were split from this many of the first seats
 abbrev pub StartSoFar : ℕ → List DeskView → List DeskView → Type 0
 StartSoFar count olds made = (length made ≡ count) × ((d : ℕ) (v w : DeskView) → slice_get olds d ≡ Some v → slice_get made d ≡ Some w → Starts d v w)
 
 pub start_more : (specs : List PartSpec) (olds mids news made : List DeskView) (at : ℕ) (one : DeskView) → IsStepAt specs mids news at (λ spec v w. Splits v w one) → AtDesks Same olds mids
     → StartSoFar at olds made → StartSoFar (at + 1) olds (made ++ one ∷ [])
-start_more specs olds mids news made at one s h k = (let n = k.0 in omega (arith, length-append made (one ∷ [])), λ d v w i j. by_place d v w i (get_push made one w d j))
+start_more specs olds mids news made at one s h k = (let n = k.0 in omega (arith, length-append made (one ∷ [])), λ d v w i j. by_position d v w i (get_push made one w d j))
   where
-    by_place : (d : ℕ) (v w : DeskView) → slice_get olds d ≡ Some v → (slice_get made d ≡ Some w) ⊎ ((d ≡ length made) × (one ≡ w)) → Starts d v w
-    by_place d v w i (inl j) = k.1 d v w i j
-    by_place d v w i (inr e) =
+    by_position : (d : ℕ) (v w : DeskView) → slice_get olds d ≡ Some v → (slice_get made d ≡ Some w) ⊎ ((d ≡ length made) × (one ≡ w)) → Starts d v w
+    by_position d v w i (inl j) = k.1 d v w i j
+    by_position d v w i (inr e) =
         let same : Same at v s.old = h.1 at v s.old (subst (λ n. slice_get olds n ≡ Some v) (e.0 ∙ k.0) i) s.old_there in
         subst (λ (x : DeskView). Starts d v x) e.1
         (ap (λ (x : DeskView). x.seen) s.ends.1 ∙ same.0, ap (λ (x : DeskView). x.made) s.ends.1)

@@ -18,7 +18,7 @@ use Rattle.desk_like.specs.Stamps.{Clocked, Ticks, raised_view, stamp_at, stamp_
 use Rattle.app_threads.specs.Order.{AllFollow, Follows, all_stamps}
 use Rattle.app_threads.specs.Steps.{IsTimely, KeepsStamps}
 use Rattle.app_threads.specs.Workers.{AtDesks}
-use Rattle.app_threads.proofs.Grown.{place_within}
+use Rattle.app_threads.proofs.Grown.{position_within}
 use Rattle.app_threads.proofs.Listed.{get_map, get_set_same, some_at}
 
 -- ---- numbers
@@ -43,7 +43,7 @@ above_low low (x ∷ xs) (suc q) h l =
     let first : low < x = h.0 in
     omega arith
 
--- in a list that rises a later number is no smaller
+-- in a rising list a later number is no smaller
 numbers_rise : (low : ℕ) (xs : List ℕ) (p q : ℕ) → IsRisingFrom low xs → p ≤ q → q ≤ length xs → get_or (low ∷ xs) p 0 ≤ get_or (low ∷ xs) q 0
 numbers_rise low xs zero zero h l m = omega arith
 numbers_rise low xs (suc p) zero h l m = absurd (omega arith)
@@ -51,7 +51,7 @@ numbers_rise low xs zero (suc q) h l m = let more : low < get_or xs q 0 = above_
 numbers_rise low [] (suc p) (suc q) h l m = absurd (omega arith)
 numbers_rise low (x ∷ xs) (suc p) (suc q) h l m = numbers_rise x xs p q h.1 (omega arith) (omega arith)
 
--- and none is larger than the last
+-- no number is larger than the last
 most_is_last : (low : ℕ) (xs : List ℕ) (q : ℕ) → IsRisingFrom low xs → q < length xs → get_or xs q 0 ≤ last_of xs
 most_is_last low [] q h l = absurd (omega arith)
 most_is_last low (x ∷ []) zero h l = omega arith
@@ -68,8 +68,8 @@ stamp_at_most xs (suc q) h l = most_is_last 0 xs q h (omega arith)
 
 -- ---- a call between two settings of the clocks
 
-adds_raised : (v w : DeskView) (c d : ℕ) (places : List ℕ) → Adds (raised_view v c) w places → Adds v (raised_view w d) places
-adds_raised v w c d places a = record { seen = a.seen; made = a.made; rising = a.rising; share = a.share; own = a.own }
+adds_raised : (v w : DeskView) (c d : ℕ) (numbers : List ℕ) → Adds (raised_view v c) w numbers → Adds v (raised_view w d) numbers
+adds_raised v w c d numbers a = record { seen = a.seen; made = a.made; rising = a.rising; share = a.share; own = a.own }
 
 invokes_raised : (v w : DeskView) (c d call thread : ℕ) (op : Op) (at : ℕ) → Invokes (raised_view v c) w call thread op at → Invokes v (raised_view w d) call thread op at
 invokes_raised v w c d call thread op at h = record {
@@ -92,16 +92,16 @@ timely_raised : (spec : PartSpec) (v w : DeskView) (c d thread : ℕ) (op : Op) 
     → IfOk e (λ r. IsTimely w.stamps r c (latest w.clock d))
 timely_raised spec v w c d thread op (Err why) h t k = tt
 timely_raised spec v w c d thread op (Ok r) h t k =
-    let Later : ℕ → Type 0 = λ place. latest v.clock c < stamp_of w.stamps place in
-    let places : t.places ≡ r.at_invoke ∷ h.0.others = append_cancel_left v.made t.places (r.at_invoke ∷ h.0.others) (sym t.made ∙ h.0.adds.made) in
-    let first : Later r.at_invoke = All-head Later r.at_invoke h.0.others (subst (λ (ps : List ℕ). All Later ps) places t.later) in
-    let within : r.at_reply ≤ length w.stamps = subst (λ n. r.at_reply ≤ n) (sym k.stamped.count) (place_within w.seen r.at_reply h.1.answered.event h.1.answered.there) in (
+    let Later : ℕ → Type 0 = λ number. latest v.clock c < stamp_of w.stamps number in
+    let numbers : t.numbers ≡ r.at_invoke ∷ h.0.others = append_cancel_left v.made t.numbers (r.at_invoke ∷ h.0.others) (sym t.made ∙ h.0.adds.made) in
+    let first : Later r.at_invoke = All-head Later r.at_invoke h.0.others (subst (λ (ps : List ℕ). All Later ps) numbers t.later) in
+    let within : r.at_reply ≤ length w.stamps = subst (λ n. r.at_reply ≤ n) (sym k.stamped.count) (position_within w.seen r.at_reply h.1.answered.event h.1.answered.there) in (
       below_next c (latest v.clock c) (stamp_of w.stamps r.at_invoke) (later_both v.clock c) first,
       numbers_rise 0 w.stamps r.at_invoke r.at_reply k.stamped.rising h.1.ordered within,
       at_most_next (stamp_of w.stamps r.at_reply) (last_of w.stamps) w.clock (latest w.clock d) (stamp_at_most w.stamps r.at_reply k.stamped.rising within) k.last (later_first w.clock d),
     )
 
--- the same, where the clocks were set before the call and after it
+-- the same if the clocks were set before the call and after it
 module _ (spec : PartSpec) (old raised called new : DeskView) (before between thread : ℕ) (op : Op) (e : Result Receipt DeskRefused) (first : raised ≡ raised_view old before) (last : new ≡ raised_view called between) where
   pub call_ended : CallEnds spec raised called thread op e → CallEnds spec old new thread op e
   call_ended h = subst (λ (v : DeskView). CallEnds spec old v thread op e) (sym last) (ends_raised spec old called before between thread op e (subst (λ (v : DeskView). CallEnds spec v called thread op e) first h))
@@ -125,7 +125,7 @@ stamps_beyond [] part l = refl
 stamps_beyond (v ∷ views) zero l = absurd (omega arith)
 stamps_beyond (v ∷ views) (suc part) l = stamps_beyond views part (omega arith)
 
--- the seat that a step left
+-- the seat after a step
 pub timely_there : {S : Type 0} (view : S → DeskView) (seats : List S) (part : ℕ) (seat : S) (e : Result Receipt DeskRefused) (before after : ℕ) → part < length seats
     → IfOk e (λ r. IsTimely (view seat).stamps r before after) → IfOk e (λ r. IsTimely (stamps_on (all_stamps (map view (slice_set seats part seat))) part) r before after)
 timely_there view seats part seat e before after l h =
@@ -133,7 +133,7 @@ timely_there view seats part seat e before after l h =
     let there = get_map view (slice_set seats part seat) part seat (get_set_same seats part old.0 seat old.1) in
     subst (λ (stamps : List ℕ). IfOk e (λ r. IsTimely stamps r before after)) (sym (stamps_there (map view (slice_set seats part seat)) part (view seat) there)) h
 
--- each list begins another
+-- each list is a prefix of the other list with the same index
 abbrev Begin : List (List ℕ) → List (List ℕ) → Type 0
 Begin olds news = (part : ℕ) → IsPrefix (stamps_on olds part) (stamps_on news part)
 
@@ -148,15 +148,15 @@ views_begin olds news h part = by_length (cases_lt part (length olds))
         (subst (λ (ys : List ℕ). IsPrefix v.0.stamps ys) (sym (stamps_there news part w.0 w.1)) (h.1 part v.0 w.0 v.1 w.1))
     by_length (inr l) = subst (λ (xs : List ℕ). IsPrefix xs (stamps_on (all_stamps news) part)) (sym (stamps_beyond olds part l)) (stamps_on (all_stamps news) part, refl)
 
--- a number above 0 is there, and stays
+-- a number above 0 in a list stays if the list grows
 number_stays : (xs more : List ℕ) (i : ℕ) → 0 < get_or xs i 0 → get_or (xs ++ more) i 0 ≡ get_or xs i 0
 number_stays [] more i h = absurd (omega arith)
 number_stays (x ∷ xs) more zero h = refl
 number_stays (x ∷ xs) more (suc i) h = number_stays xs more i h
 
-stamp_stays : (olds news : List (List ℕ)) (part place : ℕ) → Begin olds news → 0 < stamp_at olds part place → stamp_at news part place ≡ stamp_at olds part place
-stamp_stays olds news part place b h =
-    subst (λ (stamps : List ℕ). stamp_of stamps place ≡ stamp_at olds part place) (b part).1 (number_stays (0 ∷ stamps_on olds part) (b part).0 place h)
+stamp_stays : (olds news : List (List ℕ)) (part number : ℕ) → Begin olds news → 0 < stamp_at olds part number → stamp_at news part number ≡ stamp_at olds part number
+stamp_stays olds news part number b h =
+    subst (λ (stamps : List ℕ). stamp_of stamps number ≡ stamp_at olds part number) (b part).1 (number_stays (0 ∷ stamps_on olds part) (b part).0 number h)
 
 -- ---- the order of a thread's operations
 
@@ -217,7 +217,7 @@ pub until_more : (mids news : List DeskView) (before after part : ℕ) (op : Op)
 until_more mids news before after part op r ops rs keeps t h =
     until_push (all_stamps news) 0 before after part op r ops rs t (until_grows (all_stamps mids) (all_stamps news) 0 before ops rs (views_begin mids news keeps) h)
 
--- the order survives where the stamps were only added to
+-- the order is preserved if stamps are only added
 pub follows_grow : (olds news : List DeskView) (ops : List (ℕ × Op)) (rs : List Receipt) → AtDesks KeepsStamps olds news → Follows (all_stamps olds) 0 ops rs → Follows (all_stamps news) 0 ops rs
 follows_grow olds news ops rs keeps h =
     let k = follows_until (all_stamps olds) 0 ops rs h in

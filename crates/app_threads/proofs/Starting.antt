@@ -1,4 +1,4 @@
--- What a worker did depends on the events that its seats had seen and the places that they had made, and on no share.
+-- What a worker did depends only on the events that its seats had seen and on their `made` lists, not on shares.
 use Rattle.std.proofs.Common.{ℕ, List, [], ◌++◌, map, length, subst, sym, ap, ◌∙◌, arith}
 use Rattle.std.proofs.lemmas.List.{length-map}
 use Rattle.std.specs.Prelude.{Result, Ok, Err}
@@ -26,7 +26,7 @@ use Rattle.app_threads.proofs.Scripts.{at_desks_more}
 abbrev pub start_view : DeskView → DeskView
 start_view v = record { seen = v.seen; made = []; share = []; stamps = []; clock = 0 }
 
--- seats that were made beside these start so
+-- seats that were split from these start with these views
 pub start_same : (olds made : List DeskView) → AtDesks Starts olds made → AtDesks Same (map start_view olds) made
 start_same olds made s = (
   s.0 ∙ sym (length-map olds start_view),
@@ -35,10 +35,10 @@ start_same olds made s = (
 
 abbrev pub gains_same : (v u w : DeskView) (is : List ℕ) (fs : List (List ℕ)) → Same 0 v u → Gains u w is fs → Gains v w is fs
 gains_same v u w is fs s g = record {
-  places = g.places;
+  numbers = g.numbers;
   grows = record {
     seen = subst (λ seen. IsPrefix seen w.seen) s.0 g.grows.seen;
-    made = g.grows.made ∙ ap (λ (m : List ℕ). m ++ g.places) s.1;
+    made = g.grows.made ∙ ap (λ (m : List ℕ). m ++ g.numbers) s.1;
     there = g.grows.there;
   };
   invoked = g.invoked;
@@ -48,7 +48,7 @@ gains_same v u w is fs s g = record {
 does_same : (v u w : DeskView) (is : List ℕ) (fs : List (List ℕ)) → Same 0 v u → Does u w is fs → Does v w is fs
 does_same v u w is fs s h = record {
   gains = gains_same v u w is fs s h.gains;
-  rising = subst (λ seen. IsRisingFrom (length seen) h.gains.places) s.0 h.rising;
+  rising = subst (λ seen. IsRisingFrom (length seen) h.gains.numbers) s.0 h.rising;
 }
 
 made_same : (thread : ℕ) (v u w : DeskView) → Same 0 v u → MadeBy thread u w → MadeBy thread v w
@@ -97,13 +97,13 @@ grew_same thread calls frames olds mids news same h =
     at_desks_more Same (λ d v w. GrewBy thread (calls d) (frames d) v w) (λ d v w. GrewBy thread (calls d) (frames d) v w) olds mids news
     (λ d v u w s g. (at_most_same v u w (calls d) (frames d) s g.0, made_same thread v u w s g.1)) same h
 
-stop_same : (specs : List PartSpec) (scripts : List ThreadSpec) (arrivals : List (List (List ℕ))) (olds mids news : List DeskView) (k : Work) (place part : ℕ) (refusal : DeskRefused) → AtDesks Same olds mids
-    → IsWorkRefused specs scripts arrivals mids news k place part refusal → IsWorkRefused specs scripts arrivals olds news k place part refusal
-stop_same specs scripts arrivals olds mids news (work.Script thread) place part refusal same h = (
+stop_same : (specs : List PartSpec) (scripts : List ThreadSpec) (arrivals : List (List (List ℕ))) (olds mids news : List DeskView) (k : Work) (index part : ℕ) (refusal : DeskRefused) → AtDesks Same olds mids
+    → IsWorkRefused specs scripts arrivals mids news k index part refusal → IsWorkRefused specs scripts arrivals olds news k index part refusal
+stop_same specs scripts arrivals olds mids news (work.Script thread) index part refusal same h = (
   record { op = h.0.op; operation = h.0.operation; cause = refused_same specs olds mids news part _ same h.0.cause },
   open_same specs olds mids news thread part refusal same h.1,
 )
-stop_same specs scripts arrivals olds mids news (work.Arrivals p) place part refusal same h =
+stop_same specs scripts arrivals olds mids news (work.Arrivals p) index part refusal same h =
     (h.0, record { frame = h.1.frame; cause = refused_same specs olds mids news part _ same h.1.cause })
 
 pub work_same : (specs : List PartSpec) (scripts : List ThreadSpec) (arrivals : List (List (List ℕ))) (olds mids news : List DeskView) (k : Work) (e : Result (List Receipt) WorkerStop) → AtDesks Same olds mids
@@ -116,10 +116,10 @@ work_same specs scripts arrivals olds mids news k (Ok row) same h =
       at_desks_more Same Q Q olds mids news (λ d v u w s g. made_same (thread_of k) v u w s g) same h.2,
       h.3,
     )
-work_same specs scripts arrivals olds mids news k (Err (stop.Refused thread place part refusal)) same h = (
+work_same specs scripts arrivals olds mids news k (Err (stop.Refused thread index part refusal)) same h = (
   grew_same (thread_of k) (λ d. count_on d (ops_for scripts k)) (λ d. length (frames_for d arrivals k)) olds mids news same h.0,
   h.1,
-  stop_same specs scripts arrivals olds mids news k place part refusal same h.2,
+  stop_same specs scripts arrivals olds mids news k index part refusal same h.2,
 )
 work_same specs scripts arrivals olds mids news k (Err stop.NoMemory) same h =
     grew_same (thread_of k) (λ d. count_on d (ops_for scripts k)) (λ d. length (frames_for d arrivals k)) olds mids news same h

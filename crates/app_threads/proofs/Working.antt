@@ -1,4 +1,4 @@
--- The end of a script and of arrivals as the end of a work.
+-- How a script or arrivals end, as the end of a work.
 use Rattle.std.proofs.Common.{◌≡◌, ℕ, List, [], length, slice_get, subst, sym, ap, Some}
 use Rattle.std.specs.Prelude.{IfOk, if◌then◌else◌, ◌==◌, slice_index_or, Result, Ok, Err}
 use Rattle.nook_data.specs.declared.scenario.PartSpec.{PartSpec}
@@ -21,9 +21,9 @@ script_work specs scripts arrivals olds news t script (Ok rs) a h order =
       h.1,
       subst (λ o. Follows (all_stamps news) 0 o rs) (sym ops) order,
     )
-script_work specs scripts arrivals olds news t script (Err (stop.Refused thread place part refusal)) a h order =
+script_work specs scripts arrivals olds news t script (Err (stop.Refused thread index part refusal)) a h order =
     let ops : ops_of (slice_get scripts t) ≡ script.ops = ap ops_of a in
-    (subst (λ o. AtDesks (λ d v w. GrewBy t (count_on d o) 0 v w) olds news) (sym ops) h.0, h.1, (subst (λ o. IsCallRefused specs olds news o t place part refusal) (sym ops) h.2, h.3))
+    (subst (λ o. AtDesks (λ d v w. GrewBy t (count_on d o) 0 v w) olds news) (sym ops) h.0, h.1, (subst (λ o. IsCallRefused specs olds news o t index part refusal) (sym ops) h.2, h.3))
 script_work specs scripts arrivals olds news t script (Err stop.NoMemory) a h order =
     let ops : ops_of (slice_get scripts t) ≡ script.ops = ap ops_of a in
     subst (λ o. AtDesks (λ d v w. GrewBy t (count_on d o) 0 v w) olds news) (sym ops) h
@@ -36,7 +36,7 @@ arrivals_work specs scripts arrivals olds news p frames (Ok rs) a h = (
   h.2,
   subst (λ r. Follows (all_stamps news) 0 [] r) (sym h.0) tt,
 )
-arrivals_work specs scripts arrivals olds news p frames (Err (stop.Refused thread place part refusal)) a h =
-    (subst (λ fs. AtDesks (λ d v w. GrewBy 255 0 (length (if p == d then fs else [])) v w) olds news) a h.0, h.1, (h.2, subst (λ q. IsArrivalRefused specs olds news (slice_index_or arrivals q []) place q refusal) (sym h.2) (subst (λ fs. IsArrivalRefused specs olds news fs place p refusal) a h.3)))
+arrivals_work specs scripts arrivals olds news p frames (Err (stop.Refused thread index part refusal)) a h =
+    (subst (λ fs. AtDesks (λ d v w. GrewBy 255 0 (length (if p == d then fs else [])) v w) olds news) a h.0, h.1, (h.2, subst (λ q. IsArrivalRefused specs olds news (slice_index_or arrivals q []) index q refusal) (sym h.2) (subst (λ fs. IsArrivalRefused specs olds news fs index p refusal) a h.3)))
 arrivals_work specs scripts arrivals olds news p frames (Err stop.NoMemory) a h =
     subst (λ fs. AtDesks (λ d v w. GrewBy 255 0 (length (if p == d then fs else [])) v w) olds news) a h

@@ -1,4 +1,4 @@
--- Workers from their hiring to the joining of their seats.
+-- Workers, from their hiring until their seats are joined.
 use Rattle.std.specs.Prelude.{◌≡◌, ℕ, List, ◌∷◌, ◌++◌, map, length, slice_get, Some, Result, Ok, Err}
 use Rattle.nook_data.specs.declared.scenario.PartSpec.{PartSpec}
 use Rattle.nook_data.specs.declared.desks.Receipt.{Receipt}
@@ -13,13 +13,13 @@ use Rattle.app_threads.specs.Steps.{Starts}
 use Rattle.app_threads.specs.Workers.{AreSeats, AtDesks, KeepShares}
 use Rattle.app_threads.specs.Works.{IsWork, WorkEnds}
 
--- two lists are as long, and so it is with the items at each place
+-- two lists have the same length, and the relation holds for the items at each index
 abbrev pub Each : {X Y : Type 0} → (X → Y → Type 0) → List X → List Y → Type 0
 Each {X} {Y} R xs ys =
     (length ys ≡ length xs) × ((i : ℕ) (x : X) (y : Y) → slice_get xs i ≡ Some x → slice_get ys i ≡ Some y → R x y)
 
 module _ {D S : Type 0} (is_seat : D → S → Type 0) (spec : D → PartSpec) (view : S → DeskView) (desks : List D) where
-  -- a worker for a work, with new seats beside those that knew this
+  -- a worker for a work, with new seats that were split from those with these views
   pub record IsHired (olds : List DeskView) (k : Work) (worker : Worker S) : Type 0 where
     pub is : worker.work ≡ k
     pub seats : AreSeats is_seat desks worker.seats.items
@@ -44,8 +44,8 @@ StopsAt ends why =
     (rows : List (List Receipt)) × (later : List (Result (List Receipt) WorkerStop))
     × (ends ≡ map (λ row. Ok row) rows ++ Err why ∷ later)
 
--- all rows, or the first stop; want of memory may come anywhere
+-- all rows, or the first stop; memory may run out in any case
 abbrev pub RowsEnd : List (Result (List Receipt) WorkerStop) → Result (List (List Receipt)) WorkerStop → Type 0
 RowsEnd ends (Ok rows) = ends ≡ map (λ row. Ok row) rows
-RowsEnd ends (Err (stop.Refused thread place part refusal)) = StopsAt ends (stop.Refused thread place part refusal)
+RowsEnd ends (Err (stop.Refused thread index part refusal)) = StopsAt ends (stop.Refused thread index part refusal)
 RowsEnd ends (Err stop.NoMemory) = Unit {0}

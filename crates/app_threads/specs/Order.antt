@@ -11,7 +11,7 @@ use Rattle.nook_data.specs.declared.scenario.ThreadSpec.{ThreadSpec}
 abbrev pub all_stamps : List DeskView → List (List ℕ)
 all_stamps views = map (λ v. v.stamps) views
 
--- each operation was invoked later than the one before it was answered, whatever the desks of the two, and no later than
+-- each operation was invoked later than the previous one was answered, even on different desks, and no later than
 -- it was answered itself; the first was invoked later than `last`
 abbrev pub Follows : List (List ℕ) → ℕ → List (ℕ × Op) → List Receipt → Type 0
 Follows stamps last [] [] = Unit {0}
@@ -21,13 +21,13 @@ Follows stamps last ((part, op) ∷ ops) (receipt ∷ receipts) =
     × Follows stamps (stamp_at stamps part receipt.at_reply) ops receipts
 Follows stamps last _ _ = ⊥
 
--- so it is with each thread's operations
+-- the same for the operations of every thread
 abbrev pub AllFollow : List (List ℕ) → List ThreadSpec → List (List Receipt) → Type 0
 AllFollow stamps [] [] = Unit {0}
 AllFollow stamps (script ∷ scripts) (row ∷ rows) = Follows stamps 0 script.ops row × AllFollow stamps scripts rows
 AllFollow stamps _ _ = ⊥
 
--- a seat whose events were stamped has them stamped still
+-- a seat whose events were stamped still has them stamped
 pub record KeepsClocked (old new : DeskView) : Type 0 where
   pub still : Clocked old → Clocked new
 

@@ -24,7 +24,7 @@ abbrev pub add_arrivals : ℕ → List (List ℕ) → List Work → List Work
 add_arrivals part [] works = works
 add_arrivals part (frame ∷ frames) works = work.Arrivals part ∷ works
 
--- a work for each list that is not empty, from the part at this place on
+-- a work for each list that is not empty, from the part with this index on
 abbrev pub arrival_works : ℕ → List (List (List ℕ)) → List Work
 arrival_works part [] = []
 arrival_works part (frames ∷ arrivals) = add_arrivals part frames (arrival_works (part + 1) arrivals)
@@ -45,7 +45,7 @@ abbrev pub ops_for : List ThreadSpec → Work → List (ℕ × Op)
 ops_for scripts (work.Script thread) = ops_of (slice_get scripts thread)
 ops_for scripts (work.Arrivals part) = []
 
--- the frames that a work hands in at a desk
+-- the frames that a work adds at a desk
 abbrev pub frames_for : ℕ → List (List (List ℕ)) → Work → List (List ℕ)
 frames_for d arrivals (work.Script thread) = []
 frames_for d arrivals (work.Arrivals part) = if part == d then slice_index_or arrivals part [] else []
@@ -55,14 +55,14 @@ abbrev pub IsWork : List ThreadSpec → List (List (List ℕ)) → Work → Type
 IsWork scripts arrivals (work.Script thread) = thread < length scripts
 IsWork scripts arrivals (work.Arrivals part) = part < length arrivals
 
--- a worker was refused at this place of its work
+-- a worker was refused at this index of its work
 abbrev pub IsWorkRefused : List PartSpec → List ThreadSpec → List (List (List ℕ)) → List DeskView → List DeskView → Work
     → ℕ → ℕ → DeskRefused → Type 0
-IsWorkRefused specs scripts arrivals olds news (work.Script thread) place part refusal =
-    IsCallRefused specs olds news (ops_of (slice_get scripts thread)) thread place part refusal
+IsWorkRefused specs scripts arrivals olds news (work.Script thread) index part refusal =
+    IsCallRefused specs olds news (ops_of (slice_get scripts thread)) thread index part refusal
     × KnowsOpen specs olds news thread part refusal
-IsWorkRefused specs scripts arrivals olds news (work.Arrivals p) place part refusal =
-    (part ≡ p) × IsArrivalRefused specs olds news (slice_index_or arrivals part []) place part refusal
+IsWorkRefused specs scripts arrivals olds news (work.Arrivals p) index part refusal =
+    (part ≡ p) × IsArrivalRefused specs olds news (slice_index_or arrivals part []) index part refusal
 
 -- how a worker ends
 abbrev pub WorkEnds : List PartSpec → List ThreadSpec → List (List (List ℕ)) → List DeskView → Work → List DeskView
@@ -72,11 +72,11 @@ WorkEnds specs scripts arrivals olds k news (Ok receipts) =
     × AtDesks (λ d v w. Does v w (invokes_of d (ops_for scripts k) receipts) (frames_for d arrivals k)) olds news
     × AtDesks (λ d v w. MadeBy (thread_of k) v w) olds news
     × Follows (all_stamps news) 0 (ops_for scripts k) receipts
-WorkEnds specs scripts arrivals olds k news (Err (stop.Refused own place part refusal)) =
+WorkEnds specs scripts arrivals olds k news (Err (stop.Refused own index part refusal)) =
     AtDesks (λ d v w. GrewBy (thread_of k) (count_on d (ops_for scripts k)) (length (frames_for d arrivals k)) v w) olds
     news
     × (own ≡ k)
-    × IsWorkRefused specs scripts arrivals olds news k place part refusal
+    × IsWorkRefused specs scripts arrivals olds news k index part refusal
 WorkEnds specs scripts arrivals olds k news (Err stop.NoMemory) =
     AtDesks (λ d v w. GrewBy (thread_of k) (count_on d (ops_for scripts k)) (length (frames_for d arrivals k)) v w) olds
     news

@@ -14,13 +14,13 @@ use nook_data::lists::{Frames, Words};
 use std::alloc::Global;
 use std::sync::Wait;
 
-// Hands in the frame at this place of a list.
+// Adds the arrival of the frame with this index in a list.
 fn arrive_next<R: Wait, D: DeskLike>(
     rt: &R,
     alloc: Global,
     desks: &[D],
     seats: &mut [D::Seat],
-    place: u32,
+    index: u32,
     part: u32,
     frame: &Words,
 ) -> Result<bool, WorkerStop>
@@ -30,21 +30,22 @@ fn arrive_next<R: Wait, D: DeskLike>(
     requires some { 1 ≤ length frame.now }
     requires fits { length frame.now ≤ MOST_FRAME_WORDS }
     ensures seats { AreSeats D.is_seat desks.now seats.new }
-    ensures ends { IsStepAt (map D.spec desks.now) (map D.view seats.old) (map D.view seats.new) part
-        (λ spec old new. NextArrivalEnds spec old new place part frame.now result) }
+    ensures ends { IsStepAt (map D.spec desks.now) (map D.view seats.old)
+        (map D.view seats.new) part
+        (λ spec old new. NextArrivalEnds spec old new index part frame.now result) }
 {
     match arrive_at(rt, alloc, desks, seats, part, frame) {
         Ok(kept) => Ok(kept),
         Err(refusal) => Err(WorkerStop::Refused {
             work: Work::Arrivals { part },
-            place,
+            index,
             part,
             refusal,
         }),
     }
 }
 
-/// Hands a part's frames in from first to last, up to the first refusal. There are no receipts for frames.
+/// Adds the arrivals of a part's frames from first to last, until one is refused. Frames have no receipts.
 pub fn run_arrivals<R: Wait, D: DeskLike>(
     rt: &R,
     alloc: Global,
@@ -63,9 +64,9 @@ pub fn run_arrivals<R: Wait, D: DeskLike>(
         (map D.view seats.new) part frames.now result }
     ensures shares { KeepShares (map D.view seats.old) (map D.view seats.new) }
 {
-    for place in 0..frames.len() {
-        let frame = frames.get(place);
-        arrive_next(rt, alloc, desks, seats, place as u32, part, frame)?;
+    for index in 0..frames.len() {
+        let frame = frames.get(index);
+        arrive_next(rt, alloc, desks, seats, index as u32, part, frame)?;
     }
     Ok(Receipts::new(alloc))
 }

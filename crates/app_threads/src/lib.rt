@@ -1,4 +1,4 @@
-//! Application threads: each script, and each network part's arrivals, worked off by a worker of its own.
+//! Application threads: each script, and each network part's arrivals, has its own worker.
 #![tactic(auto)]
 
 mod arrivals;

@@ -18,7 +18,7 @@ use nook_io::outside::Gate;
 use std::alloc::Global;
 use std::sync::Wait;
 
-// Calls for the operation with this number in a script, by the worker's clock.
+// Calls for the operation with this index in a script, by the worker's clock.
 fn call_next<R: Wait, D: DeskLike>(
     rt: &R,
     alloc: Global,
@@ -26,7 +26,7 @@ fn call_next<R: Wait, D: DeskLike>(
     seats: &mut [D::Seat],
     clock: &mut Clock,
     thread: u8,
-    place: u32,
+    index: u32,
     part: u32,
     op: &Op,
 ) -> Result<Receipt, WorkerStop>
@@ -34,25 +34,27 @@ fn call_next<R: Wait, D: DeskLike>(
     requires thread { thread < MOST_THREADS }
     requires part { part < length desks.now }
     ensures seats { AreSeats D.is_seat desks.now seats.new }
-    ensures ends { IsStepAt (map D.spec desks.now) (map D.view seats.old) (map D.view seats.new) part
-        (λ spec old new. NextCallEnds spec old new thread place part op.now result) }
+    ensures ends { IsStepAt (map D.spec desks.now) (map D.view seats.old)
+        (map D.view seats.new) part
+        (λ spec old new. NextCallEnds spec old new thread index part op.now result) }
     ensures stamps { AtDesks KeepsStamps (map D.view seats.old) (map D.view seats.new) }
-    ensures timely { IfOk result (λ receipt. IsTimely (stamps_on (all_stamps (map D.view seats.new)) part) receipt
+    ensures timely { IfOk result
+        (λ receipt. IsTimely (stamps_on (all_stamps (map D.view seats.new)) part) receipt
         clock.old clock.new) }
 {
     match call_at(rt, alloc, desks, seats, clock, thread, part, op) {
         Ok(receipt) => Ok(receipt),
         Err(refusal) => Err(WorkerStop::Refused {
             work: Work::Script { thread },
-            place,
+            index,
             part,
             refusal,
         }),
     }
 }
 
-/// Runs a thread's script from first to last, up to the first refusal. The thread's clock goes with it from desk to
-/// desk: each operation is stamped later than the answer of the one before.
+/// Runs a thread's script from first to last, until an operation is refused. The thread carries its clock from desk to
+/// desk: each operation is stamped later than the answer to the previous one.
 pub fn run_script<R: Wait, D: DeskLike, G: Gate>(
     rt: &R,
     alloc: Global,
@@ -70,13 +72,14 @@ pub fn run_script<R: Wait, D: DeskLike, G: Gate>(
     ensures ends { ScriptEnds (map D.spec desks.now) (map D.view seats.old)
         (map D.view seats.new) thread ops.now result }
     ensures shares { KeepShares (map D.view seats.old) (map D.view seats.new) }
-    ensures order { IfOk result (λ receipts. Follows (all_stamps (map D.view seats.new)) 0 ops.now receipts) }
+    ensures order { IfOk result
+        (λ receipts. Follows (all_stamps (map D.view seats.new)) 0 ops.now receipts) }
 {
     let mut clock = Clock::start();
     let mut receipts = Receipts::new(alloc);
-    for place in 0..ops.len() {
-        gate.pass(thread, place as u32);
-        let (part, op) = ops.get(place);
+    for index in 0..ops.len() {
+        gate.pass(thread, index as u32);
+        let (part, op) = ops.get(index);
         let receipt = call_next(
             rt,
             alloc,
@@ -84,7 +87,7 @@ pub fn run_script<R: Wait, D: DeskLike, G: Gate>(
             seats,
             &mut clock,
             thread,
-            place as u32,
+            index as u32,
             *part,
             op,
         )?;

@@ -19,8 +19,8 @@ use nook_data::memory::NoMemory;
 use std::alloc::Global;
 use std::sync::Wait;
 
-// Calls a desk through a seat. Before the call and after it, the seat's clock and the worker's are set to the later of
-// the two.
+// Calls a desk through a seat. Before the call and after it, the seat's clock and the worker's are both set to the
+// later one.
 fn call_in_time<R: Wait, D: DeskLike>(
     rt: &R,
     alloc: Global,
@@ -33,9 +33,11 @@ fn call_in_time<R: Wait, D: DeskLike>(
     requires seat { D.is_seat desk.now seat.old }
     requires thread { thread < MOST_THREADS }
     ensures seat { D.is_seat desk.now seat.new }
-    ensures ends { CallEnds (D.spec desk.now) (D.view seat.old) (D.view seat.new) thread op.now result }
+    ensures ends { CallEnds (D.spec desk.now) (D.view seat.old)
+        (D.view seat.new) thread op.now result }
     ensures stamps { IsPrefix (D.view seat.old).stamps (D.view seat.new).stamps }
-    ensures timely { IfOk result (λ receipt. IsTimely (D.view seat.new).stamps receipt clock.old clock.new) }
+    ensures timely { IfOk result
+        (λ receipt. IsTimely (D.view seat.new).stamps receipt clock.old clock.new) }
 {
     desk.synchronize(seat, clock);
     let end = desk.call(rt, alloc, seat, thread, op);
@@ -43,8 +45,8 @@ fn call_in_time<R: Wait, D: DeskLike>(
     end
 }
 
-/// Calls the desk with this number by a worker's clock: the call is stamped later than the clock's time, and the clock
-/// is not behind the answer afterwards.
+/// Calls the desk with this index by a worker's clock. The call is stamped later than the clock's time, and afterwards
+/// the clock is no earlier than the answer.
 pub fn call_at<R: Wait, D: DeskLike>(
     rt: &R,
     alloc: Global,
@@ -59,17 +61,19 @@ pub fn call_at<R: Wait, D: DeskLike>(
     requires thread { thread < MOST_THREADS }
     requires part { part < length desks.now }
     ensures seats { AreSeats D.is_seat desks.now seats.new }
-    ensures ends { IsStepAt (map D.spec desks.now) (map D.view seats.old) (map D.view seats.new) part
+    ensures ends { IsStepAt (map D.spec desks.now) (map D.view seats.old)
+        (map D.view seats.new) part
         (λ spec old new. CallEnds spec old new thread op.now result) }
     ensures stamps { AtDesks KeepsStamps (map D.view seats.old) (map D.view seats.new) }
-    ensures timely { IfOk result (λ receipt. IsTimely (stamps_on (all_stamps (map D.view seats.new)) part) receipt
+    ensures timely { IfOk result
+        (λ receipt. IsTimely (stamps_on (all_stamps (map D.view seats.new)) part) receipt
         clock.old clock.new) }
 {
     let at = part as usize;
     call_in_time(rt, alloc, &desks[at], &mut seats[at], clock, thread, op)
 }
 
-/// Hands a frame to the network part at this place.
+/// Adds the arrival of a frame at the network part with this index.
 pub fn arrive_at<R: Wait, D: DeskLike>(
     rt: &R,
     alloc: Global,
@@ -84,26 +88,28 @@ pub fn arrive_at<R: Wait, D: DeskLike>(
     requires some { 1 ≤ length frame.now }
     requires fits { length frame.now ≤ MOST_FRAME_WORDS }
     ensures seats { AreSeats D.is_seat desks.now seats.new }
-    ensures ends { IsStepAt (map D.spec desks.now) (map D.view seats.old) (map D.view seats.new) part
+    ensures ends { IsStepAt (map D.spec desks.now) (map D.view seats.old)
+        (map D.view seats.new) part
         (λ spec old new. ArriveEnds spec old new frame.now result) }
 {
     let at = part as usize;
     desks[at].arrive(rt, alloc, &mut seats[at], frame)
 }
 
-// Makes a seat beside the one at this place.
+// Splits a new seat from the one with this index.
 fn split_at<D: DeskLike>(desks: &[D], seats: &mut [D::Seat], at: usize) -> D::Seat
     requires seats { AreSeats D.is_seat desks.now seats.old }
     requires at { at < length desks.now }
     ensures seats { AreSeats D.is_seat desks.now seats.new }
     ensures made { IsSeatAt D.is_seat desks.now at result }
-    ensures splits { IsStepAt (map D.spec desks.now) (map D.view seats.old) (map D.view seats.new) at
+    ensures splits { IsStepAt (map D.spec desks.now) (map D.view seats.old)
+        (map D.view seats.new) at
         (λ spec old new. Splits old new (D.view result)) }
 {
     desks[at].split(&mut seats[at])
 }
 
-/// Makes a seat beside each seat.
+/// Splits a new seat from each seat.
 pub fn split_all<D: DeskLike>(
     alloc: Global,
     desks: &[D],
@@ -115,8 +121,10 @@ pub fn split_all<D: DeskLike>(
     ensures accounts { KeepAccounts (map D.view seats.old) (map D.view seats.new) }
     ensures clocked { KeepClocked (map D.view seats.old) (map D.view seats.new) }
     ensures made { IfOk result (λ made. AreSeats D.is_seat desks.now made.items) }
-    ensures starts { IfOk result (λ made. AtDesks Starts (map D.view seats.old) (map D.view made.items)) }
-    ensures halves { IfOk result (λ made. Halve (map D.view seats.old) (map D.view seats.new) (map D.view made.items)) }
+    ensures starts { IfOk result
+        (λ made. AtDesks Starts (map D.view seats.old) (map D.view made.items)) }
+    ensures halves { IfOk result
+        (λ made. Halve (map D.view seats.old) (map D.view seats.new) (map D.view made.items)) }
 {
     let mut made = Vec::new(alloc);
     for at in 0..desks.len() {
@@ -125,7 +133,7 @@ pub fn split_all<D: DeskLike>(
     Ok(made)
 }
 
-// Takes a seat in at this place.
+// Joins a seat into the one with this index.
 fn join_at<D: DeskLike>(desks: &[D], seats: &mut [D::Seat], at: usize, other: D::Seat)
     requires seats { AreSeats D.is_seat desks.now seats.old }
     requires at { at < length desks.now }
@@ -137,7 +145,7 @@ fn join_at<D: DeskLike>(desks: &[D], seats: &mut [D::Seat], at: usize, other: D:
     desks[at].join(&mut seats[at], other);
 }
 
-/// Takes a worker's seats in, desk by desk.
+/// Joins a worker's seats into the seats, desk by desk.
 pub fn join_all<D: DeskLike>(desks: &[D], seats: &mut [D::Seat], mut others: Vec<D::Seat>)
     requires seats { AreSeats D.is_seat desks.now seats.old }
     requires others { AreSeats D.is_seat desks.now others.items }

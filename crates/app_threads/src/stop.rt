@@ -10,15 +10,15 @@ use nook_data::memory::NoMemory;
 /// Why there is no table of receipts.
 #[derive(Clone, Copy, Debug, PartialEq, Eq)]
 pub enum WorkerStop {
-    /// A desk refused the worker of this work: `part` is the desk's place, and `place` that of the operation in the
-    /// thread's script, or of the frame in the part's arrivals, counted from 0.
+    /// A desk refused the worker of this work. `part` is the desk's index, and `place` the index of the operation in
+    /// the thread's script, or of the frame in the part's arrivals.
     Refused {
         work: Work,
-        place: u32,
+        index: u32,
         part: u32,
         refusal: DeskRefused,
     },
-    /// Memory was wanting.
+    /// Memory ran out.
     NoMemory,
 }
 

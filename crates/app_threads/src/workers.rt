@@ -1,4 +1,4 @@
-//! All workers, each in a thread of its own.
+//! All workers, each in its own thread.
 
 ghost use Rattle.std.specs.Prelude.{◌≡◌, ◌<◌, ◌≤◌, length, map, All, IfOk, OnOk};
 ghost use Rattle.app_threads.specs.Ends.{WorkersEnd};
@@ -25,7 +25,7 @@ use std::sync::Wait;
 use std::thread;
 use std::thread::Threads;
 
-// A worker for each work, with seats of its own.
+// A worker for each work, with its own seats.
 fn hire<D: DeskLike>(
     alloc: Global,
     desks: &[D],
@@ -38,7 +38,8 @@ fn hire<D: DeskLike>(
     ensures accounts { KeepAccounts (map D.view seats.old) (map D.view seats.new) }
     ensures clocked { KeepClocked (map D.view seats.old) (map D.view seats.new) }
     ensures hired { IfOk result (λ workers. Each
-        (IsHired D.is_seat D.spec D.view desks.now (map D.view seats.old)) works.now workers.items) }
+        (IsHired D.is_seat D.spec D.view desks.now
+        (map D.view seats.old)) works.now workers.items) }
     ensures spread { IfOk result (λ workers. Spread (map D.view seats.old) (map D.view seats.new)
         (map (λ worker. map D.view worker.seats.items) workers.items)) }
 {
@@ -53,7 +54,7 @@ fn hire<D: DeskLike>(
     Ok(workers)
 }
 
-// Does a work at seats of one worker.
+// Does a work at one worker's seats.
 fn work_at<R: Wait, D: DeskLike, G: Gate>(
     rt: &R,
     alloc: Global,
@@ -69,7 +70,8 @@ fn work_at<R: Wait, D: DeskLike, G: Gate>(
     requires arrivals { AreArrivals (map D.spec desks.now) arrivals.now }
     requires work { IsWork scripts.now arrivals.now work }
     ensures seats { AreSeats D.is_seat desks.now seats.new }
-    ensures ends { WorkEnds (map D.spec desks.now) scripts.now arrivals.now (map D.view seats.old) work
+    ensures ends { WorkEnds (map D.spec desks.now) scripts.now arrivals.now
+        (map D.view seats.old) work
         (map D.view seats.new) result }
     ensures shares { KeepShares (map D.view seats.old) (map D.view seats.new) }
 {
@@ -84,7 +86,7 @@ fn work_at<R: Wait, D: DeskLike, G: Gate>(
     }
 }
 
-// A worker's whole life.
+// What a worker does from start to end.
 fn work_off<R: Wait, D: DeskLike, G: Gate>(
     rt: &R,
     alloc: Global,
@@ -105,7 +107,7 @@ fn work_off<R: Wait, D: DeskLike, G: Gate>(
     Done { seats, end }
 }
 
-// Lets each worker work in a thread of its own, and waits for all. The caller runs those that get no thread.
+// Lets each worker work in its own thread, and waits for all. The caller runs those that get no thread.
 fn run_all<R: Threads + Wait + Sync, D: DeskLike, G: Gate>(
     rt: &R,
     alloc: Global,
@@ -117,25 +119,29 @@ fn run_all<R: Threads + Wait + Sync, D: DeskLike, G: Gate>(
 ) -> Result<Vec<Done<D::Seat>>, NoMemory>
     requires scripts { AreScripts (length desks.now) scripts.now }
     requires arrivals { AreArrivals (map D.spec desks.now) arrivals.now }
-    requires ready { All (λ worker. IsReady D.is_seat D.spec D.view desks.now scripts.now arrivals.now worker)
+    requires ready { All
+        (λ worker. IsReady D.is_seat D.spec D.view desks.now scripts.now arrivals.now worker)
         workers.items }
-    ensures { IfOk result (λ done. Each (IsDone D.is_seat D.spec D.view desks.now scripts.now arrivals.now)
+    ensures { IfOk result
+        (λ done. Each (IsDone D.is_seat D.spec D.view desks.now scripts.now arrivals.now)
         workers.items done.items) }
 {
     let done = thread::map_vec(
         rt,
         workers,
         &|worker: Worker<D::Seat>| -> Done<D::Seat>
-            requires { AreScripts (length desks.now) scripts.now × AreArrivals (map D.spec desks.now) arrivals.now
+            requires { AreScripts (length desks.now) scripts.now
+                × AreArrivals (map D.spec desks.now) arrivals.now
                 × IsReady D.is_seat D.spec D.view desks.now scripts.now arrivals.now worker }
-            ensures { IsDone D.is_seat D.spec D.view desks.entry.now scripts.entry.now arrivals.entry.now worker
+            ensures { IsDone D.is_seat D.spec D.view desks.entry.now scripts.entry.now
+                arrivals.entry.now worker
                 result }
         { work_off(rt, alloc, desks, scripts, arrivals, gate, worker) },
     )?;
     Ok(done)
 }
 
-// Takes the workers' seats in, one worker after another.
+// Joins the workers' seats into the seats, one worker after another.
 fn take_in<D: DeskLike>(
     alloc: Global,
     desks: &[D],
@@ -173,20 +179,20 @@ fn rows_of(
     Ok(rows)
 }
 
-/// Works off each script in a thread of its own, and each list of arrivals that is not empty in one more; waits for all
-/// of them, and gives each thread's receipts in the order of its script.
+/// Runs each script in its own thread, and each list of arrivals that is not empty in another one. It waits for all of
+/// them, and returns each thread's receipts in the order of its script.
 ///
 /// There are at most 8 desks, as many seats and lists of arrivals, and at most 16 scripts. The gate is passed before
-/// each operation of a script. A worker that is refused stops there, and the others finish; the one with the smallest
-/// thread number is told, and workers of arrivals come after all threads, in the order of their desks. After a table or
-/// a refusal the seats have taken all the workers' seats in: they know all that was seen and added through these, and
-/// those that were alone before are alone again. After a refusal no seat gained more calls of a thread than its script
-/// has on that desk, nor more arrivals than the desk's list. After `NoMemory` some workers may not have run, and what
-/// was added through the seats of those that did may not be known. Whatever the answer, a seat that accounted for all
-/// that was added through it (`Accounts`) does so still.
+/// each operation of a script. A worker that is refused stops there, and the others finish. The call reports the
+/// refused worker with the smallest thread number; workers of arrivals come after all threads, in the order of their
+/// desks. After a table or a refusal all workers' seats are joined into the caller's seats. These know all that was
+/// seen and added through the workers' seats, and those that were alone before are alone again. After a refusal no seat
+/// gained more calls of a thread than its script has on that desk, nor more arrivals than the desk's list. After
+/// `NoMemory` some workers may not have run, and what was added through the seats of the others may be unknown.
+/// Whatever the result, a seat that accounted for all that was added through it (`Accounts`) still does.
 ///
-/// A thread's clock goes with it from desk to desk: each of its operations is stamped later than the answer of the one
-/// before, whatever the desks of the two.
+/// A thread carries its clock from desk to desk: each of its operations is stamped later than the answer to the
+/// previous one, even on different desks.
 pub fn run_workers<R: Threads + Wait + Sync, D: DeskLike, G: Gate>(
     rt: &R,
     alloc: Global,
@@ -205,7 +211,8 @@ pub fn run_workers<R: Threads + Wait + Sync, D: DeskLike, G: Gate>(
         (map D.view seats.new) result }
     ensures accounts { KeepAccounts (map D.view seats.old) (map D.view seats.new) }
     ensures clocked { KeepClocked (map D.view seats.old) (map D.view seats.new) }
-    ensures order { IfOk result (λ table. AllFollow (all_stamps (map D.view seats.new)) scripts.now table) }
+    ensures order { IfOk result
+        (λ table. AllFollow (all_stamps (map D.view seats.new)) scripts.now table) }
 {
     let works = works_of(alloc, scripts, arrivals)?;
     let workers = hire(alloc, desks, seats, works.as_slice())?;

@@ -1,4 +1,4 @@
--- A word that is decoded is the word of its instruction, whose fields are in range.
+-- A decoded word is the word of its instruction, and the instruction's fields are in range.
 use Rattle.std.specs.Prelude.{◌≡◌, refl, ℕ, ◌^◌, ◌<◌, ◌==◌, ◌&&◌, Bool, true, false, List, [], ◌∷◌, Option, Some, None, IfSome, option_map, if◌then◌else◌}
 use Rattle.std.specs.List.{find}
 use native.Mathlib.Omega.{arith}
@@ -14,11 +14,11 @@ use Rattle.nook_data.specs.declared.machine.Mnemonic.TheVariants as mnemonic
 use Rattle.nook_data.specs.declared.machine.Instr.{Instr}
 use Rattle.asm_defs.proofs.AsmInstrs.{InRange}
 
--- the instruction of a word, with the word
+-- an instruction encodes to the word, and its fields are in range
 abbrev pub Fits : ℕ → Instr → Type 0
 Fits word i = (encode_of i ≡ word) × InRange (fields_of i)
 
--- the operands of a form, and 0 for the others
+-- the operands that a form has, and 0 for the others
 fields_in : Mnemonic → Form → ℕ → ℕ → ℕ → Fields
 fields_in m form.Bare a b imm = fields m 0 0 0
 fields_in m form.A a b imm = fields m a 0 0
@@ -27,7 +27,7 @@ fields_in m form.AB a b imm = fields m a b 0
 fields_in m form.AImm a b imm = fields m a 0 imm
 fields_in m form.ABImm a b imm = fields m a b imm
 
--- each instruction has its form's operands
+-- an instruction has the operands of its form
 fields_back : (m : Mnemonic) (a b imm : ℕ) → fields_of (instr_with m a b imm) ≡ fields_in m (form_of m) a b imm
 unfolding fields_in
 fields_back mnemonic.Li a b imm = refl
@@ -59,7 +59,7 @@ both : (s t : Bool) → (s && t) ≡ true → (s ≡ true) × (t ≡ true)
 both true t h = (refl, h)
 both false t h = (h, subst (λ s. (s && t) ≡ true) h h)
 
--- where the other operands are 0, those are all
+-- if the other operands are 0, the form's operands are all operands
 all_in : (m : Mnemonic) (x : Form) (a b imm : ℕ) → has_no_other x a b imm ≡ true
     → fields_in m x a b imm ≡ fields m a b imm
 unfolding fields_in
@@ -71,7 +71,7 @@ all_in m form.AB a b imm h = rw (eqb-true imm 0 h) refl
 all_in m form.AImm a b imm h = rw (eqb-true b 0 h) refl
 all_in m form.ABImm a b imm h = refl
 
--- the instruction of a row that a word is of
+-- a word that belongs to a row fits the instruction of that row
 row_fits : (w : ℕ) (m : Mnemonic) → w < 2 ^ 32 → is_of_row w m ≡ true → Fits w (instr_with m (a_field w) (b_field w) (imm_field w))
 row_fits w m small h =
     let is = both (op_field w == (instruction_row m).number) (has_no_other (form_of m) (a_field w) (b_field w) (imm_field w)) h in
@@ -84,7 +84,7 @@ row_fits w m small h =
       subst InRange (sym same) (record { low_a = omega arith; low_b = omega arith; low_imm = omega arith }),
     )
 
--- what is found passes the test
+-- what `find` returns passes the test
 found_passes : {X : Type 0} (p : X → Bool) (xs : List X) → IfSome (find p xs) (λ x. p x ≡ true)
 found_passes p [] = tt
 found_passes p (x ∷ xs) = by_test (p x) refl (found_passes p xs)

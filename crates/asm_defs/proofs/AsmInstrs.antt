@@ -1,4 +1,4 @@
--- The line of an instruction that is written is read as that instruction.
+-- The written line of an instruction is read as that instruction.
 use Rattle.std.specs.Prelude.{◌≡◌, refl, ℕ, ◌^◌, ◌<◌, false, nat_lt, Option, Some, Ok}
 use Rattle.std.proofs.lemmas.Bool.{le-ltb}
 use native.Mathlib.Omega.{arith}

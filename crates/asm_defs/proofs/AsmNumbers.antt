@@ -18,7 +18,7 @@ use Rattle.asm_defs.specs.AsmTokens.{register_text, is_not_empty}
 use Rattle.asm_defs.specs.declared.assembler.TokenKind.TheVariants as kind
 use Rattle.asm_defs.proofs.AsmText.{is_plain, IsPlainToken}
 
--- what holds of each number below one, told one by one from the greatest
+-- a fact holds of each number below this one, listed from the greatest down
 abbrev pub Below : (ℕ → Type 0) → ℕ → Type 0
 Below P zero = Unit {0}
 Below P (suc n) = P n × Below P n
@@ -27,7 +27,7 @@ pub at_below : (P : ℕ → Type 0) (n : ℕ) → Below P n → (k : ℕ) → k 
 at_below P zero each k lt = absurd (search (arith, lt))
 at_below P (suc n) each k lt = elim (eq-or-lt_of_le (suc-le-suc_iff.0 lt)) [ inl same ↦ subst P (sym same) each.0 | inr less ↦ at_below P n each.1 k less ]
 
--- a digit: plain, no letter, and a digit
+-- a digit is plain, no letter, a decimal digit and no dot
 abbrev DigitFacts : ℕ → Type 0
 DigitFacts d = (is_plain (48 + d) ≡ true) × (is_letter (48 + d) ≡ false) × (is_digit (48 + d) 10 ≡ true) × ((48 + d == 46) ≡ false)
 
@@ -40,7 +40,7 @@ digit_of c h = let range = digit_from_value c h in digit_facts (c - 48) (omega a
 same_char : (c : ℕ) → digit_value c < 10 → 48 + (c - 48) ≡ c
 same_char c h = let range = digit_from_value c h in omega arith
 
--- digits: plain, and a numeral
+-- digits are plain, and form a numeral
 all_digits : (ds : List ℕ) → AllDigits 10 ds → (list_all is_plain ds ≡ true) × (list_all (λ b. is_digit b 10) ds ≡ true)
 all_digits [] h = (refl, refl)
 all_digits (c ∷ cs) h =
@@ -51,12 +51,12 @@ all_digits (c ∷ cs) h =
     let digit : is_digit c 10 ≡ true = subst (λ x. is_digit x 10 ≡ true) same facts.2 in
     (rw plain rest.0, rw digit rest.1)
 
--- the first of digits is no letter
+-- the first digit is no letter
 no_letter : (ds : List ℕ) → AllDigits 10 ds → is_letter (slice_index ds 0) ≡ false
 no_letter [] h = refl
 no_letter (c ∷ cs) h = subst (λ x. is_letter x ≡ false) (same_char c h.0) (digit_of c h.0).1
 
--- nor is it a dot
+-- the first digit is no dot
 no_dot : (ds : List ℕ) → AllDigits 10 ds → (slice_index ds 0 == 46) ≡ false
 no_dot [] h = refl
 no_dot (c ∷ cs) h = subst (λ x. (x == 46) ≡ false) (same_char c h.0) (digit_of c h.0).3

@@ -10,7 +10,7 @@ use Rattle.asm_defs.specs.Disassembler.{image_lines, disassembled}
 use Rattle.nook_data.specs.ClassNames.{class_named}
 use Rattle.machine_defs.specs.Mnemonics.{mnemonic_named}
 
--- what a law unfolds to compute the definitions of the assembler's texts on literals
+-- what a law unfolds to compute the definitions of assembler texts on literals
 unfoldable pub asm_on_literals : ⊤
 unfolding chars encode_utf8 digits
     lines_of tokens_of is_label_name is_numeral kind_of register_named mnemonic_named value_of operands_of

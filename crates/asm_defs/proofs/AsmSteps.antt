@@ -1,11 +1,11 @@
--- Each line that the disassembler writes, as the assembler takes it.
+-- The assembler reads each line that the disassembler writes.
 use Rattle.std.specs.Prelude.{◌≡◌, refl, ℕ, ◌^◌, ◌<◌, ◌≤◌, false, List, [], ◌∷◌, ◌++◌, length, slice_get, slice_set, decimal, codes, Option, Some, None, Ok}
 use Rattle.std.proofs.lemmas.Bool.{le-ltb, lt-ltb}
 use native.Mathlib.Omega.{arith}
 use mathlib.Core.Path.{ap, ◌∙◌}
 use Rattle.asm_defs.specs.AsmTokens.{kind_of, is_label_name, is_numeral}
 use Rattle.asm_defs.specs.AsmLines.{Labels, value_of, statement_of, directive_statement, class_statement}
-use Rattle.asm_defs.specs.AsmLines.{entry_statement, word_statement, place_among, line_says}
+use Rattle.asm_defs.specs.AsmLines.{entry_statement, word_statement, position_among, line_says}
 use Rattle.asm_defs.specs.Assembler.{Draft, first_draft, draft_after}
 use Rattle.asm_defs.specs.Views.Assembling.{is_given, with_class}
 use Rattle.asm_defs.specs.Disassembler.{text_tokens, word_tokens, operand_tokens}
@@ -92,7 +92,7 @@ text_by labels line w (Some x) c e t i small room found = let fits = decoded w x
     ∙ ap (λ word. Ok (draft c e section.Text (t ++ word ∷ []) i)) (ap encode_of (instr_of_fields x) ∙ fits.0)
 text_by labels line w None c e t i small room found = word_in_text labels line w c e t i small room
 
--- a text word, as an instruction or as a number
+-- a text word, written as an instruction or as a number
 pub text_taken : (labels : Labels) (line w : ℕ) (c : Class) (e : List (Option ℕ)) (t i : List ℕ) → w < 2 ^ 32 → length t < 2048
     → draft_after labels line (text_tokens w) (draft c e section.Text t i) ≡ Ok (draft c e section.Text (t ++ w ∷ []) i)
 text_taken labels line w c e t i small room = text_by labels line w (decode_of w) c e t i small room refl
@@ -122,12 +122,12 @@ entry_kind : kind_of (codes ".entry") ≡ kind.Directive
 unfolding kind_of is_label_name is_numeral
 entry_kind = refl
 
-pub entry_line : (k : Key) (place : ℕ) → IsPlainToken (key_text k) → place ≤ 2047 → IsLine (codes ".entry" ∷ key_text k ∷ decimal place ∷ [])
-entry_line k place plain low = (record { bytes = refl; some = refl }, (plain, (number_token place (omega arith), tt)))
+pub entry_line : (k : Key) (address : ℕ) → IsPlainToken (key_text k) → address ≤ 2047 → IsLine (codes ".entry" ∷ key_text k ∷ decimal address ∷ [])
+entry_line k address plain low = (record { bytes = refl; some = refl }, (plain, (number_token address (omega arith), tt)))
 
-pub entry_taken : (labels : Labels) (line place at : ℕ) (k : Key) (c : Class) (e : List (Option ℕ)) (t i : List ℕ)
-    → kind_of (key_text k) ≡ kind.Name → place_among 0 (entry_keys c) (key_text k) ≡ Some at → is_given (slice_get e at) ≡ false → place ≤ 2047
-    → draft_after labels line (codes ".entry" ∷ key_text k ∷ decimal place ∷ []) (draft c e section.Text t i) ≡ Ok (draft c (slice_set e at (Some place)) section.Text t i)
+pub entry_taken : (labels : Labels) (line address at : ℕ) (k : Key) (c : Class) (e : List (Option ℕ)) (t i : List ℕ)
+    → kind_of (key_text k) ≡ kind.Name → position_among 0 (entry_keys c) (key_text k) ≡ Some at → is_given (slice_get e at) ≡ false → address ≤ 2047
+    → draft_after labels line (codes ".entry" ∷ key_text k ∷ decimal address ∷ []) (draft c e section.Text t i) ≡ Ok (draft c (slice_set e at (Some address)) section.Text t i)
 unfolding draft_after line_says statement_of directive_statement entry_statement value_of
-entry_taken labels line place at k c e t i name among fresh low =
-    rw (entry_kind, name, number_kind place (omega arith), entry_kind, name, among, number_kind place (omega arith), le-ltb 2047 place low, fresh, statement_of, entry_statement, value_of) refl
+entry_taken labels line address at k c e t i name among fresh low =
+    rw (entry_kind, name, number_kind address (omega arith), entry_kind, name, among, number_kind address (omega arith), le-ltb 2047 address low, fresh, statement_of, entry_statement, value_of) refl

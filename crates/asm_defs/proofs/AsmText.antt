@@ -1,4 +1,4 @@
--- The lines and tokens of a text that was written line by line, token by token.
+-- The lines and tokens of a text that was written line by line and token by token.
 use Rattle.std.specs.Prelude.{◌≡◌, refl, ℕ, ◌&&◌, not, Bool, true, false, List, [], ◌∷◌, ◌++◌, map, get_or, take_while, filter, flat_map, All}
 use Rattle.std.specs.List.{list_all, slice_split}
 use Rattle.std.proofs.Common.{rules}
@@ -12,14 +12,14 @@ use Rattle.asm_defs.specs.Disassembler.{line_body, line_text}
 use Rattle.asm_defs.specs.Views.Assembling.{later_token}
 use mathlib.Core.Path.{ap, ◌∙◌, sym}
 
--- bytes of tokens that are written, and the space between those
+-- the bytes of written tokens, and the space between tokens
 abbrev pub is_plain : ℕ → Bool
 is_plain b = not (is_separator b) && (not (is_line_feed b) && is_before_comment b)
 
 abbrev pub is_inner : ℕ → Bool
 is_inner b = not (is_line_feed b) && is_before_comment b
 
--- a token that is written: not empty, and of plain bytes alone
+-- a written token is not empty and has only plain bytes
 pub record IsPlainToken (token : List ℕ) : Type 0 where
   pub bytes : list_all is_plain token ≡ true
   pub some : is_not_empty token ≡ true
@@ -64,7 +64,7 @@ second_true : (a b : Bool) → (a && b) ≡ true → b ≡ true
 second_true true b h = h
 second_true false b h = grind rules
 
--- a test that follows from another, over a list
+-- if one test implies another, it does so over a list
 weaker : (p q : ℕ → Bool) → ((b : ℕ) → p b ≡ true → q b ≡ true) → (bs : List ℕ) → list_all p bs ≡ true → list_all q bs ≡ true
 weaker p q each [] h = refl
 weaker p q each (b ∷ bs) h = rw (each b (first_true (p b) (list_all p bs) h)) (weaker p q each bs (second_true (p b) (list_all p bs) h))
@@ -75,21 +75,21 @@ separates_not token h = λ k d lt. not_separator (get_or token k d) (AllPass-fro
 feeds_not : (body : List ℕ) → list_all is_inner body ≡ true → All (λ b. is_line_feed b ≡ false) body
 feeds_not body h = λ k d lt. not_feed (get_or body k d) (AllPass-from_list_all is_inner body h k d lt)
 
--- the body of a line, by its first token
+-- a line's body has no line feed and begins no comment, shown token by token
 inner_from : (first : List ℕ) (rest : List (List ℕ)) → IsPlainToken first → ArePlain rest → list_all is_inner (first ++ flat_map later_token rest) ≡ true
 inner_from first [] plain more = rw (append-nil first) (weaker is_plain is_inner plain_inner first plain.bytes)
 inner_from first (next ∷ rest) plain more =
     rw (list_all-append is_inner first (flat_map later_token (next ∷ rest)), weaker is_plain is_inner plain_inner first plain.bytes)
     (inner_from next rest more.0 more.1)
 
--- cut at the spaces, it is the tokens again
+-- split at the spaces, it is the tokens again
 split_from : (first : List ℕ) (rest : List (List ℕ)) → IsPlainToken first → ArePlain rest → slice_split is_separator (first ++ flat_map later_token rest) ≡ first ∷ rest
 split_from first [] plain more = rw (append-nil first) (slice_split_none is_separator first (separates_not first plain.bytes))
 split_from first (next ∷ rest) plain more =
     slice_split_at is_separator first 32 (next ++ flat_map later_token rest) (separates_not first plain.bytes) refl
     ∙ ap (first ∷◌) (split_from next rest more.0 more.1)
 
--- no byte of it begins a comment
+-- no byte begins a comment, so all are kept
 all_taken : (bs : List ℕ) → list_all is_inner bs ≡ true → take_while is_before_comment bs ≡ bs
 all_taken [] h = refl
 all_taken (b ∷ bs) h = rw (take_while-cons is_before_comment b bs, before_comment b (first_true (is_inner b) (list_all is_inner bs) h))
@@ -99,12 +99,12 @@ all_kept : (tokens : List (List ℕ)) → ArePlain tokens → filter is_not_empt
 all_kept [] plain = refl
 all_kept (token ∷ more) plain = rw plain.0.some (ap (token ∷◌) (all_kept more plain.1))
 
--- a line of plain tokens, one or more
+-- a line of one or more plain tokens
 abbrev pub IsLine : List (List ℕ) → Type 0
 IsLine [] = ⊥
 IsLine (first ∷ rest) = IsPlainToken first × ArePlain rest
 
--- the tokens of a line that was written of tokens
+-- the body that is written for tokens splits into those tokens
 pub tokens_of_line : (tokens : List (List ℕ)) → IsLine tokens → tokens_of (line_body tokens) ≡ tokens
 unfolding tokens_of
 tokens_of_line [] h = absurd h
@@ -131,7 +131,7 @@ dropped_last [] = refl
 dropped_last (piece ∷ []) = refl
 dropped_last (piece ∷ next ∷ more) = ap (piece ∷◌) (dropped_last (next ∷ more))
 
--- the lines of a text that was written of lines
+-- the text that is written for lines splits into those lines
 pub lines_of_text : (lines : List (List (List ℕ))) → AreLines lines → lines_of (flat_map line_text lines) ≡ map line_body lines
 unfolding lines_of
 lines_of_text lines h = rw (split_lines lines h) (dropped_last (map line_body lines))

@@ -4,7 +4,7 @@ use Rattle.std.proofs.lemmas.List.{append_assoc, append-nil, map-append, length-
 use native.Mathlib.Omega.{arith}
 use mathlib.Core.Path.{ap, ◌∙◌}
 use Rattle.asm_defs.specs.AsmTokens.{kind_of, is_label_name}
-use Rattle.asm_defs.specs.AsmLines.{Labels, place_among}
+use Rattle.asm_defs.specs.AsmLines.{Labels, position_among}
 use Rattle.asm_defs.specs.Assembler.{Draft, first_draft, draft_after, draft_from, all_given, assembled}
 use Rattle.asm_defs.specs.Views.Assembling.{with_class, is_given}
 use Rattle.nook_data.specs.Classes.{entry_count}
@@ -13,7 +13,7 @@ use Rattle.asm_defs.specs.Disassembler.{disassembled}
 use Rattle.asm_defs.specs.Views.Assembling.{class_tokens}
 use Rattle.asm_defs.specs.Keys.{key_text, entry_keys}
 use Rattle.nook_data.specs.Valid.{IsValidImage, IsWord}
-use Rattle.nook_data.specs.Views.Limits.{IsTextPlace}
+use Rattle.nook_data.specs.Views.Limits.{IsTextAddress}
 use Rattle.asm_defs.specs.declared.assembler.Section.{Section}
 use Rattle.asm_defs.specs.declared.assembler.Section.TheVariants as section
 use Rattle.asm_defs.specs.declared.assembler.TokenKind.TheVariants as kind
@@ -129,7 +129,7 @@ key_token key.Value = record { bytes = refl; some = refl }
 key_token key.Version = record { bytes = refl; some = refl }
 key_token key.Write = record { bytes = refl; some = refl }
 
--- one line that is taken
+-- one line that the assembler accepts
 taken : (labels : Labels) (line : ℕ) (tokens : List (List ℕ)) (rest : List (List ℕ)) (before now : Draft) → IsLine tokens → draft_after labels line tokens before ≡ Ok now
     → draft_from labels line (line_body tokens ∷ rest) before ≡ draft_from labels (line + 1) rest now
 unfolding draft_from
@@ -178,7 +178,7 @@ section_after : List ℕ → Section
 section_after [] = section.Text
 section_after (w ∷ ws) = section.Data
 
--- the initial words, where there are any
+-- the initial words, if there are any
 end_taken : (labels : Labels) (line : ℕ) (ws : List ℕ) (c : Class) (e : List (Option ℕ)) (t : List ℕ) → Words ws → length ws ≤ 2048
     → draft_from labels line (map line_body (initial_lines ws)) (draft c e section.Text t []) ≡ Ok (draft c e (section_after ws) t ws)
 unfolding draft_from section_after
@@ -189,13 +189,13 @@ end_taken labels line (w ∷ ws) c e t h room =
 
 -- ---- entries
 
-entry_step : (labels : Labels) (line place at : ℕ) (k : Key) (c : Class) (e : List (Option ℕ)) (rest : List (List ℕ))
-    → place_among 0 (entry_keys c) (key_text k) ≡ Some at → is_given (slice_get e at) ≡ false → place ≤ 2047
-    → draft_from labels line (line_body (codes ".entry" ∷ key_text k ∷ decimal place ∷ []) ∷ rest) (draft c e section.Text [] [])
-    ≡ draft_from labels (line + 1) rest (draft c (slice_set e at (Some place)) section.Text [] [])
-entry_step labels line place at k c e rest among fresh low =
-    taken labels line (codes ".entry" ∷ key_text k ∷ decimal place ∷ []) rest (draft c e section.Text [] []) (draft c (slice_set e at (Some place)) section.Text [] [])
-    (entry_line k place (key_token k) low) (entry_taken labels line place at k c e [] [] (key_kind k) among fresh low)
+entry_step : (labels : Labels) (line address at : ℕ) (k : Key) (c : Class) (e : List (Option ℕ)) (rest : List (List ℕ))
+    → position_among 0 (entry_keys c) (key_text k) ≡ Some at → is_given (slice_get e at) ≡ false → address ≤ 2047
+    → draft_from labels line (line_body (codes ".entry" ∷ key_text k ∷ decimal address ∷ []) ∷ rest) (draft c e section.Text [] [])
+    ≡ draft_from labels (line + 1) rest (draft c (slice_set e at (Some address)) section.Text [] [])
+entry_step labels line address at k c e rest among fresh low =
+    taken labels line (codes ".entry" ∷ key_text k ∷ decimal address ∷ []) rest (draft c e section.Text [] []) (draft c (slice_set e at (Some address)) section.Text [] [])
+    (entry_line k address (key_token k) low) (entry_taken labels line address at k c e [] [] (key_kind k) among fresh low)
 
 class_step : (labels : Labels) (c : Class) (rest : List (List ℕ))
     → draft_from labels 1 (line_body (class_tokens c) ∷ rest) first_draft ≡ draft_from labels 2 rest (with_class c first_draft)
@@ -205,7 +205,7 @@ abbrev pub Low : List ℕ → Type 0
 Low [] = Unit {0}
 Low (p ∷ ps) = (p ≤ 2047) × Low ps
 
-pub low_from : (ps : List ℕ) → All IsTextPlace ps → Low ps
+pub low_from : (ps : List ℕ) → All IsTextAddress ps → Low ps
 low_from [] h = tt
 low_from (p ∷ ps) h = (h 0 0 (omega arith), low_from ps (λ k d lt. h (suc k) d (omega (arith, lt))))
 
@@ -243,7 +243,7 @@ sound_head labels p q r s t u rest low =
     ∙ entry_step labels 6 t 4 key.Get class.Sound (Some p ∷ Some q ∷ Some r ∷ Some s ∷ None ∷ None ∷ []) _ refl refl low.1.1.1.1.0
     ∙ entry_step labels 7 u 5 key.Set class.Sound (Some p ∷ Some q ∷ Some r ∷ Some s ∷ Some t ∷ None ∷ []) _ refl refl low.1.1.1.1.1.0
 
--- a list of five, and of six
+-- takes a list of five items apart, and one of six
 pub five : (P : List ℕ → Type 0) (es : List ℕ) → length es ≡ 5 → ((p q r s t : ℕ) → P (p ∷ q ∷ r ∷ s ∷ t ∷ [])) → P es
 five P (p ∷ q ∷ r ∷ s ∷ t ∷ []) h each = each p q r s t
 five P [] h each = absurd (omega (arith, h))
@@ -298,7 +298,7 @@ image_plain : (image : Image) → IsValidImage image → AreLines (image_lines i
 unfolding image_lines
 image_plain image valid =
     lines_both (class_tokens image.class ∷ entry_lines (entry_keys image.class) image.entries) (map text_tokens image.text ++ initial_lines image.initial)
-    (class_line image.class, entries_plain (entry_keys image.class) image.entries (low_from image.entries valid.places))
+    (class_line image.class, entries_plain (entry_keys image.class) image.entries (low_from image.entries valid.addresses))
     (lines_both (map text_tokens image.text) (initial_lines image.initial)
     (texts_plain image.text (words_from image.text valid.text.1)) (initials_plain image.initial (words_from image.initial valid.initial.1)))
 
@@ -307,7 +307,7 @@ image_taken : (labels : Labels) (image : Image) → IsValidImage image
 unfolding image_lines Head
 image_taken labels image valid =
     let rest : List (List ℕ) = map line_body (map text_tokens image.text ++ initial_lines image.initial) in
-    let head = head_taken labels image.class image.entries rest valid.entries (low_from image.entries valid.places) in
+    let head = head_taken labels image.class image.entries rest valid.entries (low_from image.entries valid.addresses) in
     rw (map-append line_body (class_tokens image.class ∷ entry_lines (entry_keys image.class) image.entries) (map text_tokens image.text ++ initial_lines image.initial))
     (head.1
     ∙ ap (λ lines. draft_from labels head.0 lines (draft image.class (map Some image.entries) section.Text [] [])) (map-append line_body (map text_tokens image.text) (initial_lines image.initial))

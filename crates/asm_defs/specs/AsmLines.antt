@@ -17,10 +17,10 @@ use Rattle.asm_defs.specs.declared.assembler.Statement.TheVariants as statement
 use Rattle.asm_defs.specs.declared.assembler.TokenKind.TheVariants as kind
 use Rattle.asm_defs.specs.declared.assembler.Value.TheVariants as value
 
--- What the tokens of one line say, or the smallest of its faults among BadToken, UnknownName and WrongOperands. It
--- depends on the labels of the text only by the values that they give, on the class so far, and on the line's section.
+-- What the tokens of one line say, or the smallest of its errors among BadToken, UnknownName and WrongOperands. It
+-- depends only on the labels' values, on the class so far, and on the line's section.
 
--- what each name is defined as, if it is
+-- the definition of each name, if it has one
 abbrev pub Labels : Type 0
 Labels = List ℕ → Option Label
 
@@ -30,22 +30,22 @@ first_of labels name = find (λ label. bytes_eq name label.name) labels
 
 -- ---- operands
 
--- the value of a token: of a number itself, of a name that is no register the place of its label, if it is defined
+-- the value of a token: a number, or for a name other than a register's the address of its label, if it is defined
 unfoldable pub value_of : Labels → List ℕ → Option Value
 value_of labels token = elim (kind_of token) [
   | kind.Number number ↦ Some (value.Known number)
   | kind.Name ↦
       if is_register token then None
-      else Some (elim (labels token) [ None ↦ value.Missing | Some label ↦ value.Known label.place ])
+      else Some (elim (labels token) [ None ↦ value.Missing | Some label ↦ value.Known label.address ])
   | _ ↦ None
 ]
 
--- registers and a value, where each is right
+-- registers and a value, if all are right
 abbrev pub operands_with : Option ℕ → Option ℕ → Option Value → Option Operands
 operands_with (Some a) (Some b) (Some imm) = Some (record { a = a; b = b; imm = imm })
 operands_with _ _ _ = None
 
--- the operands of a form, 0 where it has none; None where there are more or fewer, or one is of another sort
+-- the operands of a form, 0 for those it lacks; None if there are more or fewer, or one is of the wrong kind
 unfoldable pub operands_of : Labels → Form → List (List ℕ) → Option Operands
 operands_of labels form.Bare [] = operands_with (Some 0) (Some 0) (Some (value.Known 0))
 operands_of labels form.A (a ∷ []) = operands_with (register_named a) (Some 0) (Some (value.Known 0))
@@ -58,17 +58,17 @@ operands_of _ _ _ = None
 
 -- ---- statements
 
--- a statement, where its operands are right
+-- a statement, if its operands are right
 abbrev pub right_or_wrong : {T : Type 0} → (T → Statement) → Option T → Result Statement AsmKind
 right_or_wrong says (Some right) = Ok (says right)
 right_or_wrong says None = Err fault.WrongOperands
 
--- what a name says by what it stands for; it must stand for something
+-- what a name says, by what it names; it must name something
 abbrev pub of_name : {T : Type 0} → Option T → (T → Result Statement AsmKind) → Result Statement AsmKind
 of_name (Some named) says = says named
 of_name None says = Err fault.UnknownName
 
--- an instruction stands in the text alone
+-- an instruction, which may occur only in the text section
 abbrev pub instr_statement : Labels → Section → Mnemonic → List (List ℕ) → Result Statement AsmKind
 instr_statement labels section.Text mnemonic rest =
     right_or_wrong (statement.Instr mnemonic) (operands_of labels (form_of mnemonic) rest)
@@ -84,7 +84,7 @@ unfoldable pub word_statement : Labels → List (List ℕ) → Result Statement 
 word_statement labels (token ∷ []) = right_or_wrong statement.Word (value_of labels token)
 word_statement labels _ = Err fault.WrongOperands
 
--- `.class` and one class: a name that is no class is told before operands that are too many
+-- `.class` and one class; a name that is no class is reported before excess operands
 unfoldable pub class_statement : List (List ℕ) → Result Statement AsmKind
 class_statement [] = Err fault.WrongOperands
 class_statement (name ∷ more) = elim (kind_of name) [
@@ -92,22 +92,22 @@ class_statement (name ∷ more) = elim (kind_of name) [
   | _ ↦ Err fault.WrongOperands
 ]
 
--- the place of an entry's name among the entries of a class
-abbrev pub place_among : ℕ → List Key → List ℕ → Option ℕ
-place_among place [] name = None
-place_among place (known ∷ more) name =
-    if bytes_eq name (key_text known) then Some place else place_among (place + 1) more name
+-- the index of an entry's name among the entries of a class
+abbrev pub position_among : ℕ → List Key → List ℕ → Option ℕ
+position_among index [] name = None
+position_among index (known ∷ more) name =
+    if bytes_eq name (key_text known) then Some index else position_among (index + 1) more name
 
 -- the one value of an entry
 abbrev pub entry_value : Labels → ℕ → List (List ℕ) → Result Statement AsmKind
-entry_value labels place (token ∷ []) = right_or_wrong (statement.Entry place) (value_of labels token)
-entry_value labels place _ = Err fault.WrongOperands
+entry_value labels index (token ∷ []) = right_or_wrong (statement.Entry index) (value_of labels token)
+entry_value labels index _ = Err fault.WrongOperands
 
--- `.entry`, a name of the class so far and a value: a name that the class does not have is told before operands that
--- are too few or too many
+-- `.entry`, a name of the class so far and a value; a name that the class lacks is reported before too few or too many
+-- operands
 unfoldable pub entry_statement : Labels → Option Class → List (List ℕ) → Result Statement AsmKind
 entry_statement labels (Some class) (name ∷ more) = elim (kind_of name) [
-  | kind.Name ↦ of_name (place_among 0 (entry_keys class) name) (λ place. entry_value labels place more)
+  | kind.Name ↦ of_name (position_among 0 (entry_keys class) name) (λ index. entry_value labels index more)
   | _ ↦ Err fault.WrongOperands
 ]
 entry_statement labels _ _ = Err fault.WrongOperands
@@ -122,7 +122,7 @@ directive_statement labels class directive rest =
     else if bytes_eq directive (codes ".word") then word_statement labels rest
     else Err fault.WrongOperands
 
--- what the tokens after the definition say: a first token that is a name must be a mnemonic
+-- what the tokens after the definition say; if the first is a name, it must be a mnemonic
 unfoldable pub statement_of : Labels → Option Class → Section → List (List ℕ) → Result Statement AsmKind
 statement_of labels class section [] = Ok statement.Nothing
 statement_of labels class section (first ∷ rest) = elim (kind_of first) [
@@ -138,28 +138,28 @@ abbrev pub is_definition : TokenKind → Bool
 is_definition kind.Definition = true
 is_definition _ = false
 
--- the name that a line defines, a register's too
+-- the name that a line defines, even a register's
 abbrev pub definition_of : List (List ℕ) → Option (List ℕ)
 definition_of [] = None
 definition_of (first ∷ rest) = if is_definition (kind_of first) then Some (but_last first) else None
 
 -- the tokens after the definition
-abbrev pub behind_definition : List (List ℕ) → List (List ℕ)
-behind_definition [] = []
-behind_definition (first ∷ rest) = if is_definition (kind_of first) then rest else first ∷ rest
+abbrev pub after_definition : List (List ℕ) → List (List ℕ)
+after_definition [] = []
+after_definition (first ∷ rest) = if is_definition (kind_of first) then rest else first ∷ rest
 
--- one of the tokens is none of the language
+-- one of the tokens is not in the language
 abbrev pub has_bad_token : List (List ℕ) → Bool
 has_bad_token tokens = list_any (λ token. elim (kind_of token) [ kind.Bad ↦ true | _ ↦ false ]) tokens
 
--- a register's name may not be defined: such a line has WrongOperands, or its statement's fault, which is no larger
-abbrev pub behind_name : Option (List ℕ) → Result Statement AsmKind → Result Statement AsmKind
-behind_name None said = said
-behind_name (Some name) said =
+-- a register's name may not be defined: such a line has WrongOperands, or its statement's error if that is smaller
+abbrev pub after_name : Option (List ℕ) → Result Statement AsmKind → Result Statement AsmKind
+after_name None said = said
+after_name (Some name) said =
     if is_register name then elim said [ Ok says ↦ Err fault.WrongOperands | Err kind ↦ Err kind ] else said
 
--- what a line says, or the smallest of its faults among BadToken, UnknownName and WrongOperands
+-- what a line says, or the smallest of its errors among BadToken, UnknownName and WrongOperands
 unfoldable pub line_says : Labels → Option Class → Section → List (List ℕ) → Result Statement AsmKind
 line_says labels class section tokens =
     if has_bad_token tokens then Err fault.BadToken
-    else behind_name (definition_of tokens) (statement_of labels class section (behind_definition tokens))
+    else after_name (definition_of tokens) (statement_of labels class section (after_definition tokens))

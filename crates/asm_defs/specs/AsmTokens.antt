@@ -11,21 +11,21 @@ use Rattle.asm_defs.specs.declared.assembler.TokenKind.TheVariants as kind
 abbrev pub is_separator : ℕ → Bool
 is_separator b = b == 32 || b == 9 || b == 13 || b == 44
 
--- some bytes
+-- at least one byte
 abbrev pub is_not_empty : List ℕ → Bool
 is_not_empty bytes = not (length bytes == 0)
 
--- the pieces, but for an empty one at the end
+-- the pieces, without an empty one at the end
 abbrev pub without_empty_last : List (List ℕ) → List (List ℕ)
 without_empty_last [] = []
 without_empty_last (piece ∷ []) = filter is_not_empty (piece ∷ [])
 without_empty_last (piece ∷ next ∷ more) = piece ∷ without_empty_last (next ∷ more)
 
--- the lines of a text, each up to a line feed: after the last one there is a line only where something stands there
+-- the lines of a text, each up to a line feed; after the last line feed a line follows only if it has a byte
 unfoldable pub lines_of : List ℕ → List (List ℕ)
 lines_of text = without_empty_last (slice_split (λ b. b == 10) text)
 
--- the tokens of a line: the runs between separators, up to the `;` that begins a comment
+-- the tokens of a line: the runs of bytes between separators, before the `;` that begins a comment
 unfoldable pub tokens_of : List ℕ → List (List ℕ)
 tokens_of line = filter is_not_empty (slice_split is_separator (take_while (λ b. not (b == 59)) line))
 
@@ -37,17 +37,17 @@ is_letter b = nat_le 65 b && nat_le b 90 || nat_le 97 b && nat_le b 122 || b == 
 abbrev pub is_letter_or_digit : ℕ → Bool
 is_letter_or_digit b = is_letter b || nat_le 48 b && nat_le b 57
 
--- 1 to 32 letters, digits and `_`, no digit first
+-- 1 to 32 letters, digits and `_`, not beginning with a digit
 unfoldable pub is_label_name : List ℕ → Bool
 is_label_name bytes =
     nat_le 1 (length bytes) && nat_le (length bytes) 32 && is_letter (slice_index bytes 0)
     && list_all is_letter_or_digit bytes
 
--- one digit or more of the base, and nothing else
+-- one or more digits of the base, and nothing else
 unfoldable pub is_numeral : ℕ → List ℕ → Bool
 is_numeral base bytes = nat_le 1 (length bytes) && list_all (λ b. is_digit b base) bytes
 
--- the number that the digits write, where 2^32 stands for all numbers from there on
+-- the number that the digits write; 2^32 represents all numbers from 2^32 on
 abbrev pub numeral_value : ℕ → List ℕ → ℕ
 numeral_value base bytes = min (digits_value base bytes) 4294967296
 
@@ -55,7 +55,7 @@ numeral_value base bytes = min (digits_value base bytes) 4294967296
 abbrev pub but_last : List ℕ → List ℕ
 but_last bytes = take (length bytes - 1) bytes
 
--- what a token is, which has a byte at least
+-- what a token is; a token has at least one byte
 unfoldable pub kind_of : List ℕ → TokenKind
 kind_of token =
     if is_label_name token then kind.Name
@@ -70,11 +70,11 @@ kind_of token =
 abbrev pub register_text : ℕ → List ℕ
 register_text register = codes "r" ++ decimal register
 
--- the register whose text a name is
+-- the register that a name denotes
 unfoldable pub register_named : List ℕ → Option ℕ
 register_named name =
     of_text register_text (0 ∷ 1 ∷ 2 ∷ 3 ∷ 4 ∷ 5 ∷ 6 ∷ 7 ∷ 8 ∷ 9 ∷ 10 ∷ 11 ∷ 12 ∷ 13 ∷ 14 ∷ 15 ∷ []) name
 
--- a register's name, which is no label
+-- a register's name, which cannot be a label
 abbrev pub is_register : List ℕ → Bool
 is_register name = is_some (register_named name)

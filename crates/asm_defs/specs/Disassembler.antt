@@ -23,7 +23,7 @@ operand_tokens form.ABImm f = register_text f.a ∷ register_text f.b ∷ decima
 abbrev pub word_tokens : ℕ → List (List ℕ)
 word_tokens word = codes ".word" ∷ decimal word ∷ []
 
--- the line of a text word: its instruction's mnemonic and operands, or the number where it is none
+-- the line of a text word: its instruction's mnemonic and operands, or the number if it is no instruction
 abbrev pub text_tokens : ℕ → List (List ℕ)
 text_tokens word = elim (decode_of word) [
   | Some instr ↦
@@ -31,24 +31,24 @@ text_tokens word = elim (decode_of word) [
   | None ↦ word_tokens word
 ]
 
--- a line for each entry, in the class's order; an image has a place for each
+-- a line for each entry, in the class's order; an image has an address for each
 abbrev pub entry_lines : List Key → List ℕ → List (List (List ℕ))
-entry_lines (entry ∷ more) (place ∷ places) =
-    (codes ".entry" ∷ key_text entry ∷ decimal place ∷ []) ∷ entry_lines more places
+entry_lines (entry ∷ more) (address ∷ addresses) =
+    (codes ".entry" ∷ key_text entry ∷ decimal address ∷ []) ∷ entry_lines more addresses
 entry_lines _ _ = []
 
--- the lines of the initial words, where there are any
+-- the lines of the initial words, if there are any
 abbrev pub initial_lines : List ℕ → List (List (List ℕ))
 initial_lines [] = []
 initial_lines (word ∷ more) = (codes ".data" ∷ []) ∷ map word_tokens (word ∷ more)
 
--- all lines of an image, first that of its class
+-- all lines of an image, beginning with its class
 unfoldable pub image_lines : Image → List (List (List ℕ))
 image_lines image =
     (codes ".class" ∷ class_text image.class ∷ []) ∷ entry_lines (entry_keys image.class) image.entries
     ++ (map text_tokens image.text ++ initial_lines image.initial)
 
--- tokens with a space between them
+-- tokens separated by spaces
 abbrev pub line_body : List (List ℕ) → List ℕ
 line_body [] = []
 line_body (first ∷ rest) = first ++ flat_map (λ token. 32 ∷ token) rest

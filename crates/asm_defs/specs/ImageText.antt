@@ -12,15 +12,15 @@ abbrev pub hex_text : ℕ → ℕ → List ℕ
 hex_text zero word = []
 hex_text (suc n) word = hex_text n (word / 16) ++ digit_glyph false (word % 16) ∷ []
 
--- words as texts of eight digits
+-- words as strings of eight digits
 abbrev pub word_items : List ℕ → Items
 word_items [] = no_items
 word_items (word ∷ more) = item (string (hex_text 8 word)) (word_items more)
 
--- the members, with the entries and their places; an image has a place for each entry
+-- the members, with the entries and their addresses; an image has an address for each entry
 abbrev pub entry_members : List Key → List ℕ → Members → Members
-entry_members (entry ∷ more) (place ∷ places) members =
-    entry_members more places (put (key_text entry) (number (unsigned place)) members)
+entry_members (entry ∷ more) (address ∷ addresses) members =
+    entry_members more addresses (put (key_text entry) (number (unsigned address)) members)
 entry_members _ _ members = members
 
 -- an image as a JSON value, its keys in byte order

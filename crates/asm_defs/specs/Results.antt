@@ -1,7 +1,7 @@
 use Rattle.std.specs.Prelude.{Result, Ok, Err}
 
 infixl 10 ◌>>=◌
--- one step after another: the second, where the first gave a value
+-- one step after another: the second runs only if the first returned a value
 abbrev pub ◌>>=◌ : {A B E : Type 0} → Result A E → (A → Result B E) → Result B E
 Ok x >>= f = f x
 Err e >>= f = Err e

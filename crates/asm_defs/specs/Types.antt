@@ -1,4 +1,4 @@
--- The types of the code's data, which the definitions speak of, passed on so that each names them in one place.
+-- The types of the code's data that the definitions use, exported again so that each is imported from one module.
 use Rattle.asm_defs.specs.declared
 pub use declared.assembler.{AsmFault.AsmFault, AsmKind.AsmKind, Label.Label, Operands.Operands, Section.Section}
 pub use declared.assembler.{Statement.Statement, TokenKind.TokenKind, Value.Value}

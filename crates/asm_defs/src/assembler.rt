@@ -1,23 +1,23 @@
-//! The words of the assembler's language, and the faults of its texts.
+//! The elements of the assembler's language, and the errors of assembler texts.
 
 use nook_data::classes::Class;
 use nook_data::lists::Words8;
 use nook_data::machine::Mnemonic;
 
-/// A fault of an assembler text. The numbers that the program prints go from 1, in this order.
+/// An error of an assembler text. The numbers that the program prints count from 1, in this order.
 #[derive(Clone, Copy, Debug, PartialEq, Eq)]
 pub enum AsmKind {
     /// A run of bytes that is no token.
     BadToken,
-    /// A name that is no mnemonic, class or entry where one must stand.
+    /// A name that is no mnemonic, class or entry where one is required.
     UnknownName,
-    /// Operands of the wrong sort or number, or a statement that may not stand there.
+    /// Operands of the wrong kind or number, or a statement that may not occur there.
     WrongOperands,
     /// An immediate above 65,535, a word above 4,294,967,295 or an entry above 2,047.
     NumberRange,
     /// A label, the class or an entry is given a second time.
     DoubleLabel,
-    /// A label is used and defined nowhere.
+    /// A label is used but never defined.
     MissingLabel,
     /// The 2,049th text word.
     TextTooLong,
@@ -27,7 +27,7 @@ pub enum AsmKind {
     MissingEntry,
 }
 
-/// The first fault of an assembler text: its line, counted from 1, and the smallest kind that the line has.
+/// The first error of an assembler text: its line, counted from 1, and the smallest kind that the line has.
 #[derive(Clone, Copy)]
 pub struct AsmFault {
     pub kind: AsmKind,
@@ -43,7 +43,7 @@ pub enum TokenKind {
     Definition,
     /// A dot and a name.
     Directive,
-    /// Decimal digits, or `0x` and hexadecimal digits; 2^32 stands for all numbers from there on.
+    /// Decimal digits, or `0x` and hexadecimal digits; 2^32 represents all numbers from 2^32 on.
     Number { value: u64 },
     /// Anything else.
     Bad,
@@ -52,13 +52,13 @@ pub enum TokenKind {
 /// An operand that is a number or a label.
 #[derive(Clone, Copy)]
 pub enum Value {
-    /// The number, or the label's place.
+    /// The number, or the label's address.
     Known { number: u64 },
-    /// The label is defined nowhere.
+    /// The label is never defined.
     Missing,
 }
 
-/// The operands of an instruction. Those that its form does not have are 0.
+/// The operands of an instruction. Operands that its form lacks are 0.
 #[derive(Clone, Copy)]
 pub struct Operands {
     pub a: u8,
@@ -73,21 +73,21 @@ pub enum Section {
     Data,
 }
 
-/// A label's definition: its name, the place of the next word of its section, and its line.
+/// A label's definition: its name, the address of the next word of its section, and its line.
 #[derive(Drop)]
 pub struct Label {
     pub name: Words8,
-    pub place: u64,
+    pub address: u64,
     pub line: u64,
 }
 
-/// What a line says behind its label.
+/// What a line says after its label.
 #[derive(Clone, Copy)]
 pub enum Statement {
     Nothing,
     Class(Class),
-    /// The entry at this place of the class's order.
-    Entry { place: u32, value: Value },
+    /// The entry with this index in the class's order.
+    Entry { index: u32, value: Value },
     Section(Section),
     Word(Value),
     Instr(Mnemonic, Operands),

@@ -1,5 +1,5 @@
-//! The keys of the formats' objects with their texts, and the entries of each class: the one table that whatever reads
-//! or writes them uses.
+//! The keys of the formats' objects with their texts, and the entries of each class. All code that reads or writes the
+//! formats uses this one table.
 
 ghost use Rattle.std.specs.Prelude.{◌≡◌, length};
 ghost use Rattle.nook_data.specs.Classes.{entry_count};

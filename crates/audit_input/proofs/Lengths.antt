@@ -1,4 +1,4 @@
--- Where the line feed behind a length stands.
+-- The index of the line feed after a length.
 use Rattle.std.proofs.Common.{◌≡◌, ℕ, suc, true, ◌+◌, ◌-◌, ◌^◌, ◌<◌, ◌≤◌, List, ◌∷◌, ◌++◌, Result, Ok, Err, Bool, not, bytes_eq, true≢false, length, take, drop, get_or, decimal, refl, sym, ap, ◌∙◌, arith}
 use Rattle.std.proofs.Math.ListN.{get_or-append}
 use Rattle.std.proofs.Math.Nat.{le_antisymm, lt_of_not-le}
@@ -24,7 +24,7 @@ no_feed n i small low e =
 ten_of : (xs : List ℕ) (k : ℕ) → Passes (is_byte 10) xs k → get_or xs k 0 ≡ 10
 ten_of xs k passes = eqb-true (get_or xs k 0) 10 passes
 
--- the line feed behind the length
+-- the line feed after the length
 the_feed : (n : ℕ) (rest : List ℕ) → (is_byte 10 (get_or (decimal n ++ 10 ∷ rest) (length (decimal n)) 0)) ≡ true
 the_feed n rest = rw (get_or-append_seam (decimal n) 10 rest 0) refl
 
@@ -58,18 +58,18 @@ feed_is bytes n k rest e small found =
 pub hands_without_feed : (bytes : List ℕ) → Nowhere (Passes (is_byte 10) bytes) 0 (length bytes) → HandsNothing bytes
 hands_without_feed bytes nowhere scenario report hands = has_feed bytes (length scenario) (scenario ++ report) hands.whole nowhere
 
--- no length in front of it
+-- the bytes before the line feed are not a length
 pub hands_without_length : (bytes : List ℕ) (k : ℕ)
     → NoneBefore (Passes (is_byte 10) bytes) 0 (length bytes) k × Passes (is_byte 10) bytes k
     → NamesNoLength (take k bytes) → HandsNothing bytes
 hands_without_length bytes k found none scenario report hands =
     let n : ℕ = length scenario in
     let rest : List ℕ = scenario ++ report in
-    let place : k ≡ length (decimal n) = feed_is bytes n k rest hands.whole hands.short found in
-    let front : take k bytes ≡ decimal n = rw (place, hands.whole) (take-append_seam (decimal n) (10 ∷ rest)) in
+    let index : k ≡ length (decimal n) = feed_is bytes n k rest hands.whole hands.short found in
+    let front : take k bytes ≡ decimal n = rw (index, hands.whole) (take-append_seam (decimal n) (10 ∷ rest)) in
     none n front hands.short
 
--- a length that is more than there is
+-- a length that is more than the bytes after it
 pub hands_too_few : (bytes : List ℕ) (k m : ℕ)
     → NoneBefore (Passes (is_byte 10) bytes) 0 (length bytes) k × Passes (is_byte 10) bytes k
     → take k bytes ≡ decimal m → m < 100000000 → length (take (length bytes - (k + 1)) (drop (k + 1) bytes)) < m
@@ -80,10 +80,10 @@ hands_too_few bytes k m found front small taken scenario report hands =
     rw (← take-length (drop (k + 1) bytes)) (rw (count) taken) in
     let n : ℕ = length scenario in
     let rest : List ℕ = scenario ++ report in
-    let place : k ≡ length (decimal n) = feed_is bytes n k rest hands.whole hands.short found in
-    let own : take k bytes ≡ decimal n = rw (place, hands.whole) (take-append_seam (decimal n) (10 ∷ rest)) in
+    let index : k ≡ length (decimal n) = feed_is bytes n k rest hands.whole hands.short found in
+    let own : take k bytes ≡ decimal n = rw (index, hands.whole) (take-append_seam (decimal n) (10 ∷ rest)) in
     let same : n ≡ m = decimal_injective n m (omega (arith, hands.short)) (omega (arith, small)) (sym own ∙ front) in
-    let left : drop (k + 1) bytes ≡ rest = rw (place, hands.whole) (drop-append-add (decimal n) (10 ∷ rest) 1) in
+    let left : drop (k + 1) bytes ≡ rest = rw (index, hands.whole) (drop-append-add (decimal n) (10 ∷ rest) 1) in
     let long : length rest ≡ n + length report = length-append scenario report in
     let short : length rest < m = rw left at few in
     absurd (omega (arith, same, long, short))

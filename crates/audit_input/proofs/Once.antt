@@ -1,4 +1,4 @@
--- What some bytes hand in is one scenario and one report, or nothing.
+-- An input has at most one scenario and one report.
 use Rattle.std.proofs.Common.{◌≡◌, ℕ, suc, ◌+◌, ◌<◌, ◌==◌, ◌&&◌, nat_lt, if◌then◌else◌, Bool, true, false, List, [], ◌∷◌, ◌++◌, ◌⊎◌, inl, inr, bytes_eq, decimal, drop, get_or, length, take, refl, sym, ap, ap₂, ◌∙◌, subst, true≢false, arith}
 use Rattle.std.proofs.Math.Seq.{take-append_seam}
 use Rattle.std.proofs.lemmas.Bool.{and_parts, eqb-true, lt-ltb, ltb-true}
@@ -9,15 +9,15 @@ use Rattle.std.specs.Str.Parse.{digits_value}
 use Rattle.audit_input.proofs.Lengths.{no_feed}
 use Rattle.audit_input.specs.Handed.{Hands, HandsNothing}
 
--- the bytes in front of the first line feed, and those behind it
+-- the bytes before the first line feed, and those after it
 
 abbrev before_feed : List ℕ → List ℕ
 before_feed [] = []
 before_feed (byte ∷ bytes) = if byte == 10 then [] else byte ∷ before_feed bytes
 
-abbrev behind_feed : List ℕ → List ℕ
-behind_feed [] = []
-behind_feed (byte ∷ bytes) = if byte == 10 then bytes else behind_feed bytes
+abbrev after_feed : List ℕ → List ℕ
+after_feed [] = []
+after_feed (byte ∷ bytes) = if byte == 10 then bytes else after_feed bytes
 
 abbrev HasNoFeed : List ℕ → Type 0
 HasNoFeed [] = Unit {0}
@@ -27,9 +27,9 @@ before_at : (front rest : List ℕ) → HasNoFeed front → before_feed (front +
 before_at [] rest none = refl
 before_at (byte ∷ front) rest none = rw (none.0) (ap (λ bs. byte ∷ bs) (before_at front rest none.1))
 
-behind_at : (front rest : List ℕ) → HasNoFeed front → behind_feed (front ++ 10 ∷ rest) ≡ rest
-behind_at [] rest none = refl
-behind_at (byte ∷ front) rest none = rw (none.0) (behind_at front rest none.1)
+following_at : (front rest : List ℕ) → HasNoFeed front → after_feed (front ++ 10 ∷ rest) ≡ rest
+following_at [] rest none = refl
+following_at (byte ∷ front) rest none = rw (none.0) (following_at front rest none.1)
 
 no_ten : (byte : ℕ) → (byte ≡ 10 → ⊥) → (byte == 10) ≡ false
 no_ten byte differs = by_test (byte == 10) (λ t. differs (eqb-true byte 10 t))
@@ -42,16 +42,16 @@ without_feed : (bytes : List ℕ) → ((i : ℕ) → i < length bytes → get_or
 without_feed [] h = tt
 without_feed (byte ∷ bytes) h = (no_ten byte (λ e. h 0 (omega arith) e), without_feed bytes (λ i low e. h (suc i) (omega (arith, low)) e))
 
--- what is handed in, if anything is
+-- what the input has, if anything
 
 abbrev length_in : List ℕ → ℕ
 length_in bytes = digits_value 10 (before_feed bytes)
 
 abbrev scenario_in : List ℕ → List ℕ
-scenario_in bytes = take (length_in bytes) (behind_feed bytes)
+scenario_in bytes = take (length_in bytes) (after_feed bytes)
 
 abbrev report_in : List ℕ → List ℕ
-report_in bytes = drop (length_in bytes) (behind_feed bytes)
+report_in bytes = drop (length_in bytes) (after_feed bytes)
 
 drop_at : (xs ys : List ℕ) → drop (length xs) (xs ++ ys) ≡ ys
 drop_at xs ys =
@@ -65,8 +65,8 @@ handed_in bytes scenario report hands =
     without_feed (decimal (length scenario)) (λ i low e. no_feed (length scenario) i few low e) in
     let front : before_feed bytes ≡ decimal (length scenario) =
     ap before_feed hands.whole ∙ before_at (decimal (length scenario)) (scenario ++ report) none in
-    let rest : behind_feed bytes ≡ scenario ++ report =
-    ap behind_feed hands.whole ∙ behind_at (decimal (length scenario)) (scenario ++ report) none in
+    let rest : after_feed bytes ≡ scenario ++ report =
+    ap after_feed hands.whole ∙ following_at (decimal (length scenario)) (scenario ++ report) none in
     let count : length_in bytes ≡ length scenario =
     ap (digits_value 10) front ∙ (decimal_is_IsNumeral (length scenario) (omega (arith, few))).1 in (
       ap₂ (λ (n : ℕ) (bs : List ℕ). take n bs) count rest ∙ take-append_seam scenario report,
@@ -81,7 +81,7 @@ hands_once bytes scenario report other another a b =
     let two = handed_in bytes other another b in
     (sym one.0 ∙ two.0, sym one.1 ∙ two.1)
 
--- whether they are handed in
+-- whether the input has them
 
 abbrev is_handed : (bytes scenario report : List ℕ) → Bool
 is_handed bytes scenario report =

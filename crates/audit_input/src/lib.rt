@@ -1,4 +1,4 @@
-//! The input of `audit`: the scenario's length and a line feed, the scenario, and the printed report behind it.
+//! The input of `audit`: the scenario's length and a line feed, the scenario, and after it the printed report.
 #![tactic(auto)]
 
 ghost use Rattle.audit_input.specs.Handed.{Hands, HandsNothing, NamesNoLength};
@@ -13,16 +13,17 @@ const TOO_LONG: u32 = 100_000_000;
 /// A scenario and a report, as the bytes of one input.
 #[derive(Clone, Copy)]
 pub struct Handed<'a> {
-    /// The scenario, so many bytes as the input's first line says.
+    /// The scenario, of as many bytes as the input's first line says.
     pub scenario: &'a [u8],
-    /// All that stands behind it.
+    /// Everything after it.
     pub report: &'a [u8],
 }
 
-/// Parts an input in its scenario and its report. The input begins with the number of the scenario's bytes, in 1 to 8
-/// digits with no leading zero, and a line feed; `None` exactly where it does not, or has fewer bytes.
+/// Splits an input into its scenario and its report. The input begins with the number of the scenario's bytes, in 1 to
+/// 8 digits with no leading zero, and a line feed. Returns `None` exactly if it does not, or has fewer bytes.
 pub fn split_input(bytes: &[u8]) -> Option<Handed>
-    ensures found { IfSome result (λ handed. Hands bytes.now handed.scenario.now handed.report.now) }
+    ensures found { IfSome result
+        (λ handed. Hands bytes.now handed.scenario.now handed.report.now) }
     ensures none { IfNone result (HandsNothing bytes.now) }
 {
     let Some(end) = memchr(b'\n', bytes) else {
@@ -39,7 +40,7 @@ pub fn split_input(bytes: &[u8]) -> Option<Handed>
     Some(Handed { scenario, report })
 }
 
-/// The number below 100,000,000 of which this is the decimal text; `None` where there is none.
+/// The number below 100,000,000 whose decimal text this is; `None` if there is none.
 fn length_named(text: &[u8]) -> Option<u32>
     ensures found { IfSome result (λ n. (text.now ≡ decimal n) × (n < 100000000)) }
     ensures none { IfNone result (NamesNoLength text.now) }

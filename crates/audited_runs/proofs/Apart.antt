@@ -1,4 +1,4 @@
--- The answers of a script, set apart by their parts, come together again in the script's order.
+-- The answers of a script, split by their parts, merge again in the script's order.
 use Rattle.std.proofs.Common.{◌≡◌, ℕ, zero, suc, ◌+◌, ◌<◌, Some, List, [], ◌∷◌, length, map, filter, slice_get, slice_index_or, slice_set, refl, sym, ap, ap₂, ◌∙◌, arith, eq-eqb, ne_eqb}
 use Rattle.std.specs.List.{AllByRecursion}
 use Rattle.std.proofs.lemmas.List.Elements.{recursion_from_All}
@@ -12,43 +12,43 @@ use Rattle.nook_data.proofs.Options.{none_is_some, same_inside}
 use Rattle.run_laws.specs.Audit.{Done, answers_in_order, answers_to, in_script_order}
 use Rattle.audited_runs.proofs.Shares.{filter_none, filter_same, is_from, share_of}
 
--- the answers of so many parts, the first of them number `place`
+-- the answers of this many parts, from part `index` on
 abbrev pub apart : ℕ → ℕ → List (ℕ × Answer) → List (List (ℕ × Answer))
-apart place zero answers = []
-apart place (suc more) answers = filter (is_from place) answers ∷ apart (suc place) more answers
+apart index zero answers = []
+apart index (suc more) answers = filter (is_from index) answers ∷ apart (suc index) more answers
 
-apart_at : (place n p : ℕ) (answers : List (ℕ × Answer)) → p < n → slice_index_or (apart place n answers) p [] ≡ filter (is_from (place + p)) answers
-apart_at place zero p answers l = absurd (omega arith)
-apart_at place (suc n) zero answers l = ap (λ (k : ℕ). filter (is_from k) answers) (first place)
+apart_at : (index n p : ℕ) (answers : List (ℕ × Answer)) → p < n → slice_index_or (apart index n answers) p [] ≡ filter (is_from (index + p)) answers
+apart_at index zero p answers l = absurd (omega arith)
+apart_at index (suc n) zero answers l = ap (λ (k : ℕ). filter (is_from k) answers) (first index)
   where
     first : (k : ℕ) → k ≡ k + 0
     first k = omega arith
-apart_at place (suc n) (suc p) answers l =
-    apart_at (suc place) n p answers (omega arith) ∙ ap (λ (k : ℕ). filter (is_from k) answers) (next place p)
+apart_at index (suc n) (suc p) answers l =
+    apart_at (suc index) n p answers (omega arith) ∙ ap (λ (k : ℕ). filter (is_from k) answers) (next index p)
   where
     next : (k p : ℕ) → suc k + p ≡ k + suc p
     next k p = omega arith
 
 -- an answer of an earlier part
-apart_skip : (place n : ℕ) (a : ℕ × Answer) (answers : List (ℕ × Answer)) → a.0 < place → apart place n (a ∷ answers) ≡ apart place n answers
-apart_skip place zero a answers l = refl
-apart_skip place (suc n) a answers l =
-    ap₂ (λ (x : List (ℕ × Answer)) xs. x ∷ xs) (filter_none (is_from place) a answers (ne_eqb a.0 place (λ e. omega arith)))
-    (apart_skip (suc place) n a answers (omega arith))
+apart_skip : (index n : ℕ) (a : ℕ × Answer) (answers : List (ℕ × Answer)) → a.0 < index → apart index n (a ∷ answers) ≡ apart index n answers
+apart_skip index zero a answers l = refl
+apart_skip index (suc n) a answers l =
+    ap₂ (λ (x : List (ℕ × Answer)) xs. x ∷ xs) (filter_none (is_from index) a answers (ne_eqb a.0 index (λ e. omega arith)))
+    (apart_skip (suc index) n a answers (omega arith))
 
 -- the part's first answer is taken
-apart_set : (place n p : ℕ) (a : ℕ × Answer) (answers : List (ℕ × Answer)) → p < n → a.0 ≡ place + p
-    → slice_set (apart place n (a ∷ answers)) p (filter (is_from (place + p)) answers) ≡ apart place n answers
-apart_set place zero p a answers l e = absurd (omega arith)
-apart_set place (suc n) zero a answers l e =
-    ap₂ (λ (x : List (ℕ × Answer)) xs. x ∷ xs) (ap (λ (k : ℕ). filter (is_from k) answers) (first place)) (apart_skip (suc place) n a answers (omega arith))
+apart_set : (index n p : ℕ) (a : ℕ × Answer) (answers : List (ℕ × Answer)) → p < n → a.0 ≡ index + p
+    → slice_set (apart index n (a ∷ answers)) p (filter (is_from (index + p)) answers) ≡ apart index n answers
+apart_set index zero p a answers l e = absurd (omega arith)
+apart_set index (suc n) zero a answers l e =
+    ap₂ (λ (x : List (ℕ × Answer)) xs. x ∷ xs) (ap (λ (k : ℕ). filter (is_from k) answers) (first index)) (apart_skip (suc index) n a answers (omega arith))
   where
     first : (k : ℕ) → k + 0 ≡ k
     first k = omega arith
-apart_set place (suc n) (suc p) a answers l e =
-    ap₂ (λ (x : List (ℕ × Answer)) xs. x ∷ xs) (filter_none (is_from place) a answers (ne_eqb a.0 place (λ same. omega arith)))
-    (ap (λ (k : ℕ). slice_set (apart (suc place) n (a ∷ answers)) p (filter (is_from k) answers)) (next place p)
-    ∙ apart_set (suc place) n p a answers (omega arith) (omega arith))
+apart_set index (suc n) (suc p) a answers l e =
+    ap₂ (λ (x : List (ℕ × Answer)) xs. x ∷ xs) (filter_none (is_from index) a answers (ne_eqb a.0 index (λ same. omega arith)))
+    (ap (λ (k : ℕ). slice_set (apart (suc index) n (a ∷ answers)) p (filter (is_from k) answers)) (next index p)
+    ∙ apart_set (suc index) n p a answers (omega arith) (omega arith))
   where
     next : (k p : ℕ) → k + suc p ≡ suc k + p
     next k p = omega arith
@@ -83,23 +83,23 @@ in_order_again n (o ∷ ops) (a ∷ answers) same low =
 
 -- ---- each thread's
 
--- what the sections leave, by their seats and their shares of the threads
+-- what the sections leave, by their running parts and their shares of the threads
 abbrev pub left_by : ℕ → List RunningPart → List ThreadState → List Done
-left_by place [] threads = []
-left_by place (seat ∷ seats) threads =
-    record { journal = seat.run.journal; answers = map answers_of_thread (map (share_of place) threads) } ∷ left_by (suc place) seats threads
+left_by index [] threads = []
+left_by index (seat ∷ seats) threads =
+    record { journal = seat.run.journal; answers = map answers_of_thread (map (share_of index) threads) } ∷ left_by (suc index) seats threads
 
-answers_shared : (place i : ℕ) (threads : List ThreadState) (t : ThreadState) → slice_get threads i ≡ Some t
-    → slice_index_or (map answers_of_thread (map (share_of place) threads)) i [] ≡ filter (is_from place) t.answers
-answers_shared place i [] t h = none_is_some h
-answers_shared place zero (x ∷ threads) t h = ap (λ (y : ThreadState). filter (is_from place) y.answers) (same_inside h)
-answers_shared place (suc i) (x ∷ threads) t h = answers_shared place i threads t h
+answers_shared : (index i : ℕ) (threads : List ThreadState) (t : ThreadState) → slice_get threads i ≡ Some t
+    → slice_index_or (map answers_of_thread (map (share_of index) threads)) i [] ≡ filter (is_from index) t.answers
+answers_shared index i [] t h = none_is_some h
+answers_shared index zero (x ∷ threads) t h = ap (λ (y : ThreadState). filter (is_from index) y.answers) (same_inside h)
+answers_shared index (suc i) (x ∷ threads) t h = answers_shared index i threads t h
 
-left_apart : (place i : ℕ) (seats : List RunningPart) (threads : List ThreadState) (t : ThreadState) → slice_get threads i ≡ Some t
-    → map (answers_to i) (left_by place seats threads) ≡ apart place (length seats) t.answers
-left_apart place i [] threads t h = refl
-left_apart place i (seat ∷ seats) threads t h =
-    ap₂ (λ (x : List (ℕ × Answer)) xs. x ∷ xs) (answers_shared place i threads t h) (left_apart (suc place) i seats threads t h)
+left_apart : (index i : ℕ) (seats : List RunningPart) (threads : List ThreadState) (t : ThreadState) → slice_get threads i ≡ Some t
+    → map (answers_to i) (left_by index seats threads) ≡ apart index (length seats) t.answers
+left_apart index i [] threads t h = refl
+left_apart index i (seat ∷ seats) threads t h =
+    ap₂ (λ (x : List (ℕ × Answer)) xs. x ∷ xs) (answers_shared index i threads t h) (left_apart (suc index) i seats threads t h)
 
 pub low_ops : (n : ℕ) (ops : List (ℕ × Op)) → AllByRecursion (IsValidStep n) ops → AllByRecursion (λ o. o.0 < n) ops
 low_ops n [] h = tt

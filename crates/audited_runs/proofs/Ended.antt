@@ -1,4 +1,4 @@
--- At the end of a scheduled run each journal fits whole.
+-- At the end of a scheduled run each whole journal fits.
 use Rattle.std.proofs.Common.{◌≡◌, ℕ, suc, ◌+◌, ◌<◌, ◌≤◌, cond, true, Option, Some, None, List, [], ◌∷◌, ◌++◌, length, length-append, map, slice_get, refl, sym, ap, ◌∙◌, subst, arith, append_assoc, le-leb, lt-ltb}
 use Rattle.std.specs.List.{AllByRecursion}
 use Rattle.std.proofs.lemmas.List.Elements.{recursion_from_All}
@@ -31,7 +31,7 @@ use Rattle.audited_runs.proofs.SoFar.{FitsSoFar, so_far_whole}
 
 -- ---- threads that have nothing left
 
--- all was invoked and answered
+-- every operation was invoked and answered
 abbrev pub IsDone : ThreadState → Type 0
 IsDone t = (t.rest ≡ []) × (t.waiting ≡ None)
 
@@ -56,20 +56,20 @@ all_done (spec ∷ specs) (t ∷ threads) are same =
     nothing : (answers waits rest ops : ℕ) → answers + waits + rest ≡ ops → answers ≡ ops → (waits ≡ 0) × (rest ≡ 0)
     nothing answers waits rest ops a b = (omega arith, omega arith)
 
-shares_through : (place : ℕ) (threads : List ThreadState) → AllByRecursion IsDone threads → are_through (map (share_of place) threads) ≡ true
-shares_through place [] done = refl
-shares_through place (t ∷ threads) done = rw (done.0.0, done.0.1) (shares_through place threads done.1)
+shares_through : (index : ℕ) (threads : List ThreadState) → AllByRecursion IsDone threads → are_through (map (share_of index) threads) ≡ true
+shares_through index [] done = refl
+shares_through index (t ∷ threads) done = rw (done.0.0, done.0.1) (shares_through index threads done.1)
 
 -- ---- frames that have arrived
 
--- the part's first frames have arrived, and the others are to come
+-- the part's first frames have arrived, and the others are still to come
 record IsFed (spec : PartSpec) (seat : RunningPart) : Type 0 where
   frames : List (List ℕ)
   order : spec.arrivals ≡ frames ++ seat.coming
   count : seat.run.state.arrived ≡ length frames
   same : seat.run.state.spec ≡ spec
 
--- how many frames a step lets arrive
+-- how many frames arrive in a step
 abbrev arrives : Step → ℕ
 arrives (step.Arrive frame) = 1
 arrives s = 0
@@ -127,7 +127,7 @@ not_empty : (frames : List (List ℕ)) (frame : List ℕ) (rest : List (List ℕ
 not_empty [] frame rest h = cc
 not_empty (f ∷ frames) frame rest h = cc
 
--- a frame that is to come in a valid part may arrive
+-- a frame still to come in a valid part may arrive
 may_arrive : (c : Class) (spec : PartSpec) (p : PartState) (frames : List (List ℕ)) (frame : List ℕ) (rest : List (List ℕ)) → spec.class ≡ c → FitsClass c spec
     → p.spec ≡ spec → p.arrived ≡ length frames → spec.arrivals ≡ frames ++ frame ∷ rest → enabled p (step.Arrive frame) ≡ true
 unfolding enabled
@@ -136,14 +136,14 @@ may_arrive class.Sound spec p frames frame rest is fits same count order = absur
 may_arrive class.Net spec p frames frame rest is fits same count order =
     let class' : p.spec.class ≡ class.Net = ap (λ (x : PartSpec). x.class) same ∙ is in
     let valid : IsValidFrame frame =
-    behind frames (subst (AllByRecursion IsValidFrame) order (recursion_from_All IsValidFrame spec.arrivals fits.3)) in
+    rest_after frames (subst (AllByRecursion IsValidFrame) order (recursion_from_All IsValidFrame spec.arrivals fits.3)) in
     let size : length spec.arrivals ≡ length frames + suc (length rest) = ap length order ∙ length-append frames (frame ∷ rest) in
     let few : p.arrived < 100000 = small (length spec.arrivals) (length frames) (length rest) p.arrived size fits.2 count in
     rw (class', le-leb 1 (length frame) valid.0, le-leb (length frame) 64 valid.1.0, lt-ltb p.arrived 100000 few) refl
   where
-    behind : (frames : List (List ℕ)) → AllByRecursion IsValidFrame (frames ++ frame ∷ rest) → IsValidFrame frame
-    behind [] h = h.0
-    behind (f ∷ frames) h = behind frames h.1
+    rest_after : (frames : List (List ℕ)) → AllByRecursion IsValidFrame (frames ++ frame ∷ rest) → IsValidFrame frame
+    rest_after [] h = h.0
+    rest_after (f ∷ frames) h = rest_after frames h.1
 
     small : (all some more n : ℕ) → all ≡ some + suc more → all ≤ 256 → n ≡ some → n < 100000
     small all some more n e l h = omega arith
@@ -158,29 +158,29 @@ none_to_come spec seat (frame ∷ rest) valid h e none =
 
 -- ---- each part
 
-part_complete : (specs : List ThreadSpec) (place : ℕ) (spec : PartSpec) (seat : RunningPart) (threads : List ThreadState) → IsValidPart spec
-    → IsSectionOf specs place spec seat threads → AllByRecursion IsDone threads → arrival seat.run seat.coming ≡ None → next_any seat.run.state ≡ None
-    → is_complete (section_from (opening_section specs place spec) seat.run.journal) ≡ true
+part_complete : (specs : List ThreadSpec) (index : ℕ) (spec : PartSpec) (seat : RunningPart) (threads : List ThreadState) → IsValidPart spec
+    → IsSectionOf specs index spec seat threads → AllByRecursion IsDone threads → arrival seat.run seat.coming ≡ None → next_any seat.run.state ≡ None
+    → is_complete (section_from (opening_section specs index spec) seat.run.journal) ≡ true
 unfolding is_complete
-part_complete specs place spec seat threads valid is done none settled =
+part_complete specs index spec seat threads valid is done none settled =
     let fed : IsFed spec seat =
-    subst (λ (s : Section). IsFed spec s.seat) is.is (fed_from spec (opening_section specs place spec) seat.run.journal is.fits (fed_opening spec)) in
+    subst (λ (s : Section). IsFed spec s.seat) is.is (fed_from spec (opening_section specs index spec) seat.run.journal is.fits (fed_opening spec)) in
     let nothing : has_nothing seat.coming ≡ true = none_to_come spec seat seat.coming valid fed refl none in
-    ap is_complete is.is ∙ rw (shares_through place threads done, nothing, settled) refl
+    ap is_complete is.is ∙ rw (shares_through index threads done, nothing, settled) refl
 
-all_fit : (specs : List ThreadSpec) (place : ℕ) (parts : List PartSpec) (seats : List RunningPart) (threads : List ThreadState)
-    → AllByRecursion IsValidPart parts → AreSections specs place parts seats threads → AllByRecursion IsDone threads
+all_fit : (specs : List ThreadSpec) (index : ℕ) (parts : List PartSpec) (seats : List RunningPart) (threads : List ThreadState)
+    → AllByRecursion IsValidPart parts → AreSections specs index parts seats threads → AllByRecursion IsDone threads
     → ((k : ℕ) (seat : RunningPart) → slice_get seats k ≡ Some seat → arrival seat.run seat.coming ≡ None)
     → ((k : ℕ) (seat : RunningPart) → slice_get seats k ≡ Some seat → next_any seat.run.state ≡ None)
-    → AllFit specs place parts (map journal_of seats)
+    → AllFit specs index parts (map journal_of seats)
 unfolding AllFit
-all_fit specs place [] [] threads valid are done none settled = tt
-all_fit specs place [] (seat ∷ seats) threads valid are done none settled = absurd are
-all_fit specs place (spec ∷ parts) [] threads valid are done none settled = absurd are
-all_fit specs place (spec ∷ parts) (seat ∷ seats) threads valid are done none settled = (
-  so_far_whole (opening_section specs place spec) seat.run.journal are.0.fits
-      (part_complete specs place spec seat threads valid.0 are.0 done (none 0 seat refl) (settled 0 seat refl)),
-  all_fit specs (suc place) parts seats threads valid.1 are.1 done (λ k x h. none (suc k) x h) (λ k x h. settled (suc k) x h),
+all_fit specs index [] [] threads valid are done none settled = tt
+all_fit specs index [] (seat ∷ seats) threads valid are done none settled = absurd are
+all_fit specs index (spec ∷ parts) [] threads valid are done none settled = absurd are
+all_fit specs index (spec ∷ parts) (seat ∷ seats) threads valid are done none settled = (
+  so_far_whole (opening_section specs index spec) seat.run.journal are.0.fits
+      (part_complete specs index spec seat threads valid.0 are.0 done (none 0 seat refl) (settled 0 seat refl)),
+  all_fit specs (suc index) parts seats threads valid.1 are.1 done (λ k x h. none (suc k) x h) (λ k x h. settled (suc k) x h),
 )
 
 -- a scheduled run keeps its sections to its end

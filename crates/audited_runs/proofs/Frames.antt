@@ -12,11 +12,11 @@ use Rattle.run_defs.proofs.ChoicesInOrder.{choices_in_order}
 use Rattle.part_defs.specs.State.{PartState}
 use Rattle.part_defs.specs.Steps.{enabled}
 use Rattle.part_defs.proofs.NextSteps.{next_for_case}
-use Rattle.part_laws.proofs.Places.{split}
+use Rattle.part_laws.proofs.Indices.{split}
 use Rattle.nook_data.proofs.Options.{none_is_some, same_inside}
 use Rattle.run_laws.specs.Audit.{arrival_of}
 
--- the part's next frame, where the step is an arrival
+-- if the step is an arrival, it is that of the part's next frame
 abbrev pub IsFrameNext : Option RunningPart → Step → Type 0
 IsFrameNext None s = Unit {0}
 IsFrameNext (Some seat) (step.Arrive frame) = arrival_of seat.coming ≡ Some (step.Arrive frame)
@@ -34,7 +34,7 @@ no_frame (Some seat) (step.Burst context) h = tt
 no_frame (Some seat) step.Stage h = tt
 no_frame (Some seat) (step.Arrive frame) h = absurd h
 
--- a step that is told is the first or one of the others
+-- the step that is found is the first or one of the others
 if_case : (P : Step → Type 0) (p : PartState) (s s' : Step) (others : Option Step) → P s → (others ≡ Some s' → P s') → if_enabled p s others ≡ Some s' → P s'
 if_case P p s s' others here more h = split (enabled p s)
     (λ e. subst P (same_inside (rw e at h)) here)

@@ -6,7 +6,7 @@ pub mod Frames
 pub mod Merged
 pub mod NoOthers
 pub mod Once
-pub mod Placed
+pub mod Numbered
 pub mod Reached
 pub mod Sections
 pub mod Serves

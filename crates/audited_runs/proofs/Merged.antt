@@ -1,4 +1,4 @@
--- The receipts of a thread, part by part, come together in its script's order.
+-- A thread's receipts, part by part, merge in its script's order.
 use Rattle.std.proofs.Common.{◌≡◌, ℕ, zero, suc, ◌+◌, ◌<◌, ◌==◌, Some, List, [], ◌∷◌, filter, map, length, slice_get, slice_index_or, slice_set, refl, sym, ap, ◌∙◌, subst, arith, eqb-true, eq-eqb, ne_eqb}
 use Rattle.std.proofs.lemmas.Bool.{eqb-false}
 use Rattle.std.proofs.lemmas.List.{get_or-set_other, get_or-set_same}
@@ -12,7 +12,7 @@ use Rattle.nook_data.specs.declared.calls.Op.{Op}
 use Rattle.nook_data.specs.declared.scenario.PartSpec.{PartSpec}
 use Rattle.nook_data.specs.declared.desks.Receipt.{Receipt}
 use Rattle.nook_data.specs.declared.scenario.ThreadSpec.{ThreadSpec}
-use Rattle.part_laws.proofs.Places.{split}
+use Rattle.part_laws.proofs.Indices.{split}
 use Rattle.threaded_run.specs.Threaded.{HaveReceipts, IsServed, answers_by, invoked_on}
 use Rattle.run_laws.specs.Audit.{answers_to, in_script_order, is_on, opening_section, thread_on}
 use Rattle.run_laws.specs.Fitting.{AllFit, section_from, sections_of}
@@ -22,92 +22,92 @@ use Rattle.audited_runs.proofs.Serves.{AreOn, Serves, answer_on, invoked_at}
 use Rattle.audited_runs.proofs.Shares.{filter_none, filter_same}
 
 module _ (i : ℕ) where
-  -- for each part, of which the first is number `place`: the receipts of the thread's operations on it, and their answers
+  -- for each part, from part `index` on: the receipts of the thread's operations on it, and their answers
   abbrev pub AreOnEach : List (ℕ × Op) → ℕ → List (List Event) → List (List Receipt) → List (List (ℕ × Answer)) → Type 0
-  AreOnEach ops place [] [] [] = Unit {0}
-  AreOnEach ops place (j ∷ journals) (g ∷ given) (a ∷ answers) =
-      AreOn j i (filter (is_on place) ops) g × (a ≡ map (answer_on place) g) × AreOnEach ops (suc place) journals given answers
-  AreOnEach ops place journals given answers = ⊥
+  AreOnEach ops index [] [] [] = Unit {0}
+  AreOnEach ops index (j ∷ journals) (g ∷ given) (a ∷ answers) =
+      AreOn j i (filter (is_on index) ops) g × (a ≡ map (answer_on index) g) × AreOnEach ops (suc index) journals given answers
+  AreOnEach ops index journals given answers = ⊥
 
   -- an operation on an earlier part
-  each_skip : (o : ℕ × Op) (ops : List (ℕ × Op)) (place : ℕ) (journals : List (List Event)) (given : List (List Receipt)) (answers : List (List (ℕ × Answer))) → o.0 < place
-      → AreOnEach (o ∷ ops) place journals given answers → AreOnEach ops place journals given answers
-  each_skip o ops place [] [] [] l h = tt
-  each_skip o ops place [] [] (a ∷ answers) l h = absurd h
-  each_skip o ops place [] (g ∷ given) answers l h = absurd h
-  each_skip o ops place (j ∷ journals) [] answers l h = absurd h
-  each_skip o ops place (j ∷ journals) (g ∷ given) [] l h = absurd h
-  each_skip o ops place (j ∷ journals) (g ∷ given) (a ∷ answers) l h = (
-    subst (λ xs. AreOn j i xs g) (filter_none (is_on place) o ops (ne_eqb o.0 place (λ e. omega arith))) h.0,
+  each_skip : (o : ℕ × Op) (ops : List (ℕ × Op)) (index : ℕ) (journals : List (List Event)) (given : List (List Receipt)) (answers : List (List (ℕ × Answer))) → o.0 < index
+      → AreOnEach (o ∷ ops) index journals given answers → AreOnEach ops index journals given answers
+  each_skip o ops index [] [] [] l h = tt
+  each_skip o ops index [] [] (a ∷ answers) l h = absurd h
+  each_skip o ops index [] (g ∷ given) answers l h = absurd h
+  each_skip o ops index (j ∷ journals) [] answers l h = absurd h
+  each_skip o ops index (j ∷ journals) (g ∷ given) [] l h = absurd h
+  each_skip o ops index (j ∷ journals) (g ∷ given) (a ∷ answers) l h = (
+    subst (λ xs. AreOn j i xs g) (filter_none (is_on index) o ops (ne_eqb o.0 index (λ e. omega arith))) h.0,
     h.1,
-    each_skip o ops (suc place) journals given answers (omega arith) h.2,
+    each_skip o ops (suc index) journals given answers (omega arith) h.2,
   )
 
   -- the next operation takes the first receipt of its part
-  record Takes (o : ℕ × Op) (ops : List (ℕ × Op)) (place q : ℕ) (journals : List (List Event)) (given : List (List Receipt)) (answers : List (List (ℕ × Answer))) : Type 0 where
+  record Takes (o : ℕ × Op) (ops : List (ℕ × Op)) (index q : ℕ) (journals : List (List Event)) (given : List (List Receipt)) (answers : List (List (ℕ × Answer))) : Type 0 where
     first : Receipt
     more : List Receipt
     at : slice_index_or given q [] ≡ first ∷ more
-    told : slice_index_or answers q [] ≡ (o.0, first.answer) ∷ map (answer_on o.0) more
+    reported : slice_index_or answers q [] ≡ (o.0, first.answer) ∷ map (answer_on o.0) more
     receipt : IsReceipt (slice_index_or journals q []) i o.1 first
-    left : AreOnEach ops place journals (slice_set given q more) (slice_set answers q (map (answer_on o.0) more))
+    left : AreOnEach ops index journals (slice_set given q more) (slice_set answers q (map (answer_on o.0) more))
 
-  take_here : (o : ℕ × Op) (ops : List (ℕ × Op)) (place : ℕ) (j : List Event) (journals : List (List Event)) (g : List Receipt) (given : List (List Receipt)) (a : List (ℕ × Answer))
-      (answers : List (List (ℕ × Answer))) → o.0 ≡ place → AreOn j i (o ∷ filter (is_on place) ops) g → a ≡ map (answer_on place) g
-      → AreOnEach (o ∷ ops) (suc place) journals given answers → Takes o ops place 0 (j ∷ journals) (g ∷ given) (a ∷ answers)
-  take_here o ops place j journals [] given a answers e on is h = absurd on
-  take_here o ops place j journals (r ∷ more) given a answers e on is h = record {
+  take_here : (o : ℕ × Op) (ops : List (ℕ × Op)) (index : ℕ) (j : List Event) (journals : List (List Event)) (g : List Receipt) (given : List (List Receipt)) (a : List (ℕ × Answer))
+      (answers : List (List (ℕ × Answer))) → o.0 ≡ index → AreOn j i (o ∷ filter (is_on index) ops) g → a ≡ map (answer_on index) g
+      → AreOnEach (o ∷ ops) (suc index) journals given answers → Takes o ops index 0 (j ∷ journals) (g ∷ given) (a ∷ answers)
+  take_here o ops index j journals [] given a answers e on is h = absurd on
+  take_here o ops index j journals (r ∷ more) given a answers e on is h = record {
     first = r;
     more = more;
     at = refl;
-    told = is ∙ ap {B = List (ℕ × Answer)} (λ (k : ℕ). map (answer_on k) (r ∷ more)) (sym e);
+    reported = is ∙ ap {B = List (ℕ × Answer)} (λ (k : ℕ). map (answer_on k) (r ∷ more)) (sym e);
     receipt = on.0;
-    left = (on.1, ap (λ (k : ℕ). map (answer_on k) more) e, each_skip o ops (suc place) journals given answers (omega arith) h);
+    left = (on.1, ap (λ (k : ℕ). map (answer_on k) more) e, each_skip o ops (suc index) journals given answers (omega arith) h);
   }
 
-  takes : (o : ℕ × Op) (ops : List (ℕ × Op)) (place q : ℕ) (journals : List (List Event)) (given : List (List Receipt)) (answers : List (List (ℕ × Answer))) → o.0 ≡ place + q
-      → q < length journals → AreOnEach (o ∷ ops) place journals given answers → Takes o ops place q journals given answers
-  takes o ops place q [] [] [] e l h = absurd (omega arith)
-  takes o ops place q [] [] (a ∷ answers) e l h = absurd h
-  takes o ops place q [] (g ∷ given) answers e l h = absurd h
-  takes o ops place q (j ∷ journals) [] answers e l h = absurd h
-  takes o ops place q (j ∷ journals) (g ∷ given) [] e l h = absurd h
-  takes o ops place zero (j ∷ journals) (g ∷ given) (a ∷ answers) e l h =
-      let same : o.0 ≡ place = omega arith in
-      take_here o ops place j journals g given a answers same (subst (λ xs. AreOn j i xs g) (filter_same (is_on place) o ops (eq-eqb o.0 place same)) h.0) h.1 h.2
-  takes o ops place (suc q) (j ∷ journals) (g ∷ given) (a ∷ answers) e l h =
-      let t : Takes o ops (suc place) q journals given answers = takes o ops (suc place) q journals given answers (omega arith) (omega arith) h.2 in
+  takes : (o : ℕ × Op) (ops : List (ℕ × Op)) (index q : ℕ) (journals : List (List Event)) (given : List (List Receipt)) (answers : List (List (ℕ × Answer))) → o.0 ≡ index + q
+      → q < length journals → AreOnEach (o ∷ ops) index journals given answers → Takes o ops index q journals given answers
+  takes o ops index q [] [] [] e l h = absurd (omega arith)
+  takes o ops index q [] [] (a ∷ answers) e l h = absurd h
+  takes o ops index q [] (g ∷ given) answers e l h = absurd h
+  takes o ops index q (j ∷ journals) [] answers e l h = absurd h
+  takes o ops index q (j ∷ journals) (g ∷ given) [] e l h = absurd h
+  takes o ops index zero (j ∷ journals) (g ∷ given) (a ∷ answers) e l h =
+      let same : o.0 ≡ index = omega arith in
+      take_here o ops index j journals g given a answers same (subst (λ xs. AreOn j i xs g) (filter_same (is_on index) o ops (eq-eqb o.0 index same)) h.0) h.1 h.2
+  takes o ops index (suc q) (j ∷ journals) (g ∷ given) (a ∷ answers) e l h =
+      let t : Takes o ops (suc index) q journals given answers = takes o ops (suc index) q journals given answers (omega arith) (omega arith) h.2 in
       record {
         first = t.first;
         more = t.more;
         at = t.at;
-        told = t.told;
+        reported = t.reported;
         receipt = t.receipt;
-        left = (subst (λ xs. AreOn j i xs g) (filter_none (is_on place) o ops (ne_eqb o.0 place (λ same. omega arith))) h.0, h.1, t.left);
+        left = (subst (λ xs. AreOn j i xs g) (filter_none (is_on index) o ops (ne_eqb o.0 index (λ same. omega arith))) h.0, h.1, t.left);
       }
 
-  each_count : (ops : List (ℕ × Op)) (place : ℕ) (journals : List (List Event)) (given : List (List Receipt)) (answers : List (List (ℕ × Answer)))
-      → AreOnEach ops place journals given answers → length given ≡ length journals
-  each_count ops place [] [] [] h = refl
-  each_count ops place [] [] (a ∷ answers) h = absurd h
-  each_count ops place [] (g ∷ given) answers h = absurd h
-  each_count ops place (j ∷ journals) [] answers h = absurd h
-  each_count ops place (j ∷ journals) (g ∷ given) [] h = absurd h
-  each_count ops place (j ∷ journals) (g ∷ given) (a ∷ answers) h = ap suc (each_count ops (suc place) journals given answers h.2)
+  each_count : (ops : List (ℕ × Op)) (index : ℕ) (journals : List (List Event)) (given : List (List Receipt)) (answers : List (List (ℕ × Answer)))
+      → AreOnEach ops index journals given answers → length given ≡ length journals
+  each_count ops index [] [] [] h = refl
+  each_count ops index [] [] (a ∷ answers) h = absurd h
+  each_count ops index [] (g ∷ given) answers h = absurd h
+  each_count ops index (j ∷ journals) [] answers h = absurd h
+  each_count ops index (j ∷ journals) (g ∷ given) [] h = absurd h
+  each_count ops index (j ∷ journals) (g ∷ given) (a ∷ answers) h = ap suc (each_count ops (suc index) journals given answers h.2)
 
   no_receipts : (j : List Event) (g : List Receipt) → AreOn j i [] g → g ≡ []
   no_receipts j [] h = refl
   no_receipts j (r ∷ g) h = absurd h
 
-  none_given : (place : ℕ) (journals : List (List Event)) (given : List (List Receipt)) (answers : List (List (ℕ × Answer))) → AreOnEach [] place journals given answers
+  none_given : (index : ℕ) (journals : List (List Event)) (given : List (List Receipt)) (answers : List (List (ℕ × Answer))) → AreOnEach [] index journals given answers
       → (k : ℕ) → slice_index_or given k [] ≡ []
-  none_given place [] [] [] h k = refl
-  none_given place [] [] (a ∷ answers) h k = absurd h
-  none_given place [] (g ∷ given) answers h k = absurd h
-  none_given place (j ∷ journals) [] answers h k = absurd h
-  none_given place (j ∷ journals) (g ∷ given) [] h k = absurd h
-  none_given place (j ∷ journals) (g ∷ given) (a ∷ answers) h zero = no_receipts j g h.0
-  none_given place (j ∷ journals) (g ∷ given) (a ∷ answers) h (suc k) = none_given (suc place) journals given answers h.2 k
+  none_given index [] [] [] h k = refl
+  none_given index [] [] (a ∷ answers) h k = absurd h
+  none_given index [] (g ∷ given) answers h k = absurd h
+  none_given index (j ∷ journals) [] answers h k = absurd h
+  none_given index (j ∷ journals) (g ∷ given) [] h k = absurd h
+  none_given index (j ∷ journals) (g ∷ given) (a ∷ answers) h zero = no_receipts j g h.0
+  none_given index (j ∷ journals) (g ∷ given) (a ∷ answers) h (suc k) = none_given (suc index) journals given answers h.2 k
 
   -- ---- in the script's order
 
@@ -135,7 +135,7 @@ module _ (i : ℕ) where
       record {
         receipts = t.first ∷ rest.receipts;
         have = (t.receipt, rest.have);
-        same = ap (taken_from ops answers p) t.told ∙ ap {B = List (ℕ × Answer)} (λ xs. (p, t.first.answer) ∷ xs) rest.same;
+        same = ap (taken_from ops answers p) t.reported ∙ ap {B = List (ℕ × Answer)} (λ xs. (p, t.first.answer) ∷ xs) rest.same;
         invoked = λ part. split (p == part)
             (λ e.
             let is : p ≡ part = eqb-true p part e in
@@ -151,33 +151,33 @@ module _ (i : ℕ) where
 
   -- ---- the receipts of all parts
 
-  record IsServedInParts (ops : List (ℕ × Op)) (place : ℕ) (journals : List (List Event)) (answers : List (List (ℕ × Answer))) : Type 0 where
+  record IsServedInParts (ops : List (ℕ × Op)) (index : ℕ) (journals : List (List Event)) (answers : List (List (ℕ × Answer))) : Type 0 where
     given : List (List Receipt)
-    on : AreOnEach ops place journals given answers
+    on : AreOnEach ops index journals given answers
     rising : (k : ℕ) → IsRisingFrom 0 (map invoked_at (slice_index_or given k []))
 
-  served_in_parts : (threads : List ThreadSpec) (t : ThreadSpec) (place : ℕ) (parts : List PartSpec) (journals : List (List Event)) → slice_get threads i ≡ Some t
-      → AllByRecursion IsValidPart parts → AllFit threads place parts journals
-      → IsServedInParts t.ops place journals (map (answers_to i) (sections_of threads place parts journals))
+  served_in_parts : (threads : List ThreadSpec) (t : ThreadSpec) (index : ℕ) (parts : List PartSpec) (journals : List (List Event)) → slice_get threads i ≡ Some t
+      → AllByRecursion IsValidPart parts → AllFit threads index parts journals
+      → IsServedInParts t.ops index journals (map (answers_to i) (sections_of threads index parts journals))
   unfolding AllFit sections_of
-  served_in_parts threads t place [] [] at v h = record { given = []; on = tt; rising = λ k. tt }
-  served_in_parts threads t place [] (journal ∷ journals) at v h = absurd h
-  served_in_parts threads t place (spec ∷ parts) [] at v h = absurd h
-  served_in_parts threads t place (spec ∷ parts) (journal ∷ journals) at v h =
-      let own : List (ℕ × Answer) = slice_index_or (map answers_of_thread (section_from (opening_section threads place spec) journal).threads) i [] in
-      let s : Serves place i journal 0 (thread_on place t) own = part_serves threads place spec journal i t v.0 h.0 at in
-      let more : IsServedInParts t.ops (suc place) journals (map (answers_to i) (sections_of threads (suc place) parts journals)) =
-      served_in_parts threads t (suc place) parts journals at v.1 h.1 in
+  served_in_parts threads t index [] [] at v h = record { given = []; on = tt; rising = λ k. tt }
+  served_in_parts threads t index [] (journal ∷ journals) at v h = absurd h
+  served_in_parts threads t index (spec ∷ parts) [] at v h = absurd h
+  served_in_parts threads t index (spec ∷ parts) (journal ∷ journals) at v h =
+      let own : List (ℕ × Answer) = slice_index_or (map answers_of_thread (section_from (opening_section threads index spec) journal).threads) i [] in
+      let s : Serves index i journal 0 (thread_on index t) own = part_serves threads index spec journal i t v.0 h.0 at in
+      let more : IsServedInParts t.ops (suc index) journals (map (answers_to i) (sections_of threads (suc index) parts journals)) =
+      served_in_parts threads t (suc index) parts journals at v.1 h.1 in
       record {
         given = s.receipts ∷ more.given;
         on = (s.on, s.given, more.on);
-        rising = λ k. by_place s.receipts more.given s.rising more.rising k;
+        rising = λ k. by_position s.receipts more.given s.rising more.rising k;
       }
     where
-      by_place : (g : List Receipt) (given : List (List Receipt)) → IsRisingFrom 0 (map invoked_at g) → ((k : ℕ) → IsRisingFrom 0 (map invoked_at (slice_index_or given k [])))
+      by_position : (g : List Receipt) (given : List (List Receipt)) → IsRisingFrom 0 (map invoked_at g) → ((k : ℕ) → IsRisingFrom 0 (map invoked_at (slice_index_or given k [])))
           → (k : ℕ) → IsRisingFrom 0 (map invoked_at (slice_index_or (g ∷ given) k []))
-      by_place g given r rs zero = r
-      by_place g given r rs (suc k) = rs k
+      by_position g given r rs zero = r
+      by_position g given r rs (suc k) = rs k
 
 pub thread_served : (threads : List ThreadSpec) (parts : List PartSpec) (journals : List (List Event)) (i : ℕ) (t : ThreadSpec) → slice_get threads i ≡ Some t
     → AllByRecursion IsValidPart parts → AllFit threads 0 parts journals → AllByRecursion (λ o. o.0 < length journals) t.ops

@@ -31,14 +31,14 @@ use Rattle.nook_data.specs.declared.steps.Stage.TheVariants as stage
 use Rattle.nook_data.specs.declared.steps.Step.{Step}
 use Rattle.nook_data.specs.declared.steps.Step.TheVariants as step
 use Rattle.part_laws.proofs.Answered.{AnswersCall, crossed_shows, run_answered}
-use Rattle.part_laws.proofs.Places.{split}
+use Rattle.part_laws.proofs.Indices.{split}
 use Rattle.part_laws.specs.Answered.{is_answered}
 use Rattle.part_laws.specs.Fit.{IsFitSpec}
 use Rattle.nook_data.proofs.Options.{none_is_some, same_inside}
 
 -- ---- an event answers no call that was answered before
 
--- the call is open, or its number was not given yet
+-- the call is open, or its number was not assigned yet
 abbrev IsNotDone : CallLog → ℕ → Type 0
 IsNotDone log call = is_answered log call ≡ false
 
@@ -53,7 +53,7 @@ find_other p q (y ∷ xs) x h k = split (q y)
     (λ f. absurd (true≢false (sym (subst (λ z. q z ≡ true) (sym (same_inside (rw (find, f) at h))) k) ∙ e)))
     (λ f. rw (find, e) (find_other p q xs x (rw (find, f) at h) k)))
 
--- an answer by the number of a call
+-- an answer, found by the number of its call
 numbered_is : (call c : ℕ) (a : Option Answer) (x : Answer) → answer_among call (one_answer c a) ≡ Some x → (c ≡ call) × (a ≡ Some x)
 numbered_is call c None x h = none_is_some h
 numbered_is call c (Some a) x h = split (c == call)
@@ -107,7 +107,7 @@ entered_answers p thread call x h = by_call (call_of_thread thread p.log.pending
     by_admit : (c : CallEntry) → call_of_thread thread p.log.pending ≡ Some c → (a : Admit) → answer_at call (after_admit p c a).event ≡ Some x → IsNotDone p.log call
     by_admit c e (admits.Reply a) k = thread_not_done p.log thread call c e (numbered_is call c.call (Some _) x k).0
     by_admit c e admits.TakeFrame k = thread_not_done p.log thread call c e (numbered_is call c.call (Some _) x k).0
-    by_admit c e (admits.Enter place) k = thread_not_done p.log thread call c e (numbered_is call c.call None x k).0
+    by_admit c e (admits.Enter index) k = thread_not_done p.log thread call c e (numbered_is call c.call None x k).0
 
     by_call : (o : Option CallEntry) → call_of_thread thread p.log.pending ≡ o → answer_at call (entered_by p thread o).event ≡ Some x → IsNotDone p.log call
     by_call None e k = none_is_some (numbered_is call 0 None x k).1
@@ -158,7 +158,7 @@ step_answers p (step.Arrive frame) call x h = none_is_some h
 
 -- ---- a run
 
--- a journal in front of an event
+-- a journal's prefix before an event
 record IsCut (journal : List Event) (m : ℕ) (e : Event) : Type 0 where
   front : List Event
   back : List Event
@@ -171,12 +171,12 @@ cut_at (x ∷ journal) zero e h =
     record { front = []; back = journal; is = ap {B = List Event} (λ y. y ∷ journal) (same_inside h); same = λ k l. absurd (omega arith) }
 cut_at (x ∷ journal) (suc m) e h =
     let c : IsCut journal m e = cut_at journal m e h in
-    record { front = x ∷ c.front; back = c.back; is = ap {B = List Event} (λ ys. x ∷ ys) c.is; same = λ k l. by_place c.front c.same k l }
+    record { front = x ∷ c.front; back = c.back; is = ap {B = List Event} (λ ys. x ∷ ys) c.is; same = λ k l. by_position c.front c.same k l }
   where
-    by_place : (front : List Event) → ((k : ℕ) → k < m → slice_get front k ≡ slice_get journal k) → (k : ℕ) → k < suc m
+    by_position : (front : List Event) → ((k : ℕ) → k < m → slice_get front k ≡ slice_get journal k) → (k : ℕ) → k < suc m
         → slice_get (x ∷ front) k ≡ slice_get (x ∷ journal) k
-    by_place front same zero l = refl
-    by_place front same (suc k) l = same k (omega arith)
+    by_position front same zero l = refl
+    by_position front same (suc k) l = same k (omega arith)
 
 run_cut : (p : PartState) (front : List Event) (e : Event) (back : List Event) → IsRunFrom p (front ++ e ∷ back)
     → IsRunFrom p front × (event_of (state_from p front) (step_of e) ≡ e)
@@ -186,15 +186,15 @@ run_cut p (x ∷ front) e back r =
     let more = run_cut (state_after p (step_of x)) front e back r.2 in
     ((r.0, r.1, more.0), more.1)
 
-answered_in : (place call : ℕ) (journal : List Event) (k : ℕ) (e : Event) (a : Answer) → slice_get journal k ≡ Some e → answer_at call e ≡ Some a
-    → is_some (answered_from place call journal) ≡ true
-answered_in place call [] k e a at h = none_is_some at
-answered_in place call (x ∷ journal) zero e a at h =
+answered_in : (index call : ℕ) (journal : List Event) (k : ℕ) (e : Event) (a : Answer) → slice_get journal k ≡ Some e → answer_at call e ≡ Some a
+    → is_some (answered_from index call journal) ≡ true
+answered_in index call [] k e a at h = none_is_some at
+answered_in index call (x ∷ journal) zero e a at h =
     let here : answer_at call x ≡ Some a = ap (answer_at call) (same_inside at) ∙ h in
     rw here refl
-answered_in place call (x ∷ journal) (suc k) e a at h = split (is_some (answer_at call x))
+answered_in index call (x ∷ journal) (suc k) e a at h = split (is_some (answer_at call x))
     (λ it. rw it refl)
-    (λ no. rw no (answered_in (place + 1) call journal k e a at h))
+    (λ no. rw no (answered_in (index + 1) call journal k e a at h))
 
 -- no second event answers a call
 not_again : (spec : PartSpec) (journal : List Event) (call k m : ℕ) (e x : Event) (a b : Answer) → IsFitSpec spec → IsRun spec journal → k < m
@@ -202,8 +202,8 @@ not_again : (spec : PartSpec) (journal : List Event) (call k m : ℕ) (e x : Eve
 not_again spec journal call k m e x a b fit run l at h at' h' =
     let c : IsCut journal m x = cut_at journal m x at' in
     let r = run_cut (opening spec) c.front x c.back (subst (IsRunFrom (opening spec)) c.is run) in
-    let told : is_some (answered_at c.front call) ≡ true = answered_in 1 call c.front k e a (c.same k l ∙ at) h in
-    let done : is_answered (state_of spec c.front).log call ≡ true = sym (run_answered spec c.front fit r.0 call) ∙ told in
+    let reported : is_some (answered_at c.front call) ≡ true = answered_in 1 call c.front k e a (c.same k l ∙ at) h in
+    let done : is_answered (state_of spec c.front).log call ≡ true = sym (run_answered spec c.front fit r.0 call) ∙ reported in
     let not_done : is_answered (state_of spec c.front).log call ≡ false =
     step_answers (state_of spec c.front) (step_of x) call b (ap (answer_at call) r.1 ∙ h') in
     true≢false (sym done ∙ not_done)

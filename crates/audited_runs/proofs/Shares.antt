@@ -9,7 +9,7 @@ use Rattle.nook_data.specs.Answers.{answer_at}
 use Rattle.part_defs.specs.Runs.{step_of}
 use Rattle.run_defs.specs.Simulation.{ThreadState, Waiting, opening_thread, started, threads_after, thread_after}
 use Rattle.run_defs.proofs.RunChanges.{settled, settled_by}
-use Rattle.part_laws.proofs.Places.{split}
+use Rattle.part_laws.proofs.Indices.{split}
 use Rattle.run_laws.proofs.Choices.{IsOwn}
 use Rattle.nook_data.proofs.Options.{same_inside}
 use Rattle.run_laws.specs.Audit.{is_on}
@@ -17,18 +17,18 @@ use Rattle.run_laws.specs.Audit.{is_on}
 -- ---- a thread, as a part knows it
 
 abbrev pub is_from : ℕ → ℕ × Answer → Bool
-is_from place a = a.0 == place
+is_from index a = a.0 == index
 
 abbrev pub waiting_on : ℕ → Option Waiting → Option Waiting
-waiting_on place None = None
-waiting_on place (Some w) = if w.part == place then Some w else None
+waiting_on index None = None
+waiting_on index (Some w) = if w.part == index then Some w else None
 
--- the thread's operations on the part, its open call if that is the part's, and the part's answers
+-- the thread's operations on the part, its open call if that is on the part, and the part's answers
 abbrev pub share_of : ℕ → ThreadState → ThreadState
-share_of place t = record {
-  rest = filter (is_on place) t.rest;
-  waiting = waiting_on place t.waiting;
-  answers = filter (is_from place) t.answers;
+share_of index t = record {
+  rest = filter (is_on index) t.rest;
+  waiting = waiting_on index t.waiting;
+  answers = filter (is_from index) t.answers;
 }
 
 -- ---- filters
@@ -53,7 +53,7 @@ filter_skip p (y ∷ xs) x h = split (p y)
 
 -- ---- an event that is the thread's own
 
--- where the event is the thread's invocation, the thread waits nowhere, and the operation is its next
+-- if the event is the thread's invocation, the thread has no open call, and the operation is its next
 abbrev pub MayStart : ℕ → ℕ → Event → ThreadState → Type 0
 MayStart n part (event.Invoke call thread o a) t = thread ≡ n → (t.waiting ≡ None) × ((more : List (ℕ × Op)) × (t.rest ≡ (part, o) ∷ more))
 MayStart n part e t = Unit {0}
@@ -78,10 +78,10 @@ share_settled part t (Some a) =
     ap {B = ThreadState} (λ xs. record { rest = filter (is_on part) t.rest; waiting = None; answers = xs })
     (filter_push (is_from part) t.answers (part, a) (eq-eqb part part refl))
 
-share_told_by : (part : ℕ) (e : Event) (t : ThreadState) (w : Option Waiting)
+share_reported_by : (part : ℕ) (e : Event) (t : ThreadState) (w : Option Waiting)
     → share_of part (settled part e t w) ≡ settled part e (share_of part t) (waiting_on part w)
-share_told_by part e t None = refl
-share_told_by part e t (Some w) = split (w.part == part)
+share_reported_by part e t None = refl
+share_reported_by part e t (Some w) = split (w.part == part)
     (λ h. rw h (share_settled part t (answer_at w.call e) ∙ sym (waits h)))
     (λ h. rw h refl)
   where
@@ -92,47 +92,47 @@ pub share_own : (n part : ℕ) (e : Event) (t : ThreadState) → MayStart n part
     → thread_after part e (started n part e (share_of part t)) ≡ share_of part (thread_after part e (started n part e t))
 share_own n part e t may =
     let s : ThreadState = started n part e t in
-    ap (thread_after part e) (sym (share_started n part e t may)) ∙ sym (share_told_by part e s s.waiting)
+    ap (thread_after part e) (sym (share_started n part e t may)) ∙ sym (share_reported_by part e s s.waiting)
 
 -- ---- an event of another part
 
-share_not_started : (n part place : ℕ) (e : Event) (t : ThreadState) → (part == place) ≡ false → MayStart n part e t
-    → share_of place (started n part e t) ≡ share_of place t
-share_not_started n part place (event.Invoke call thread o a) t other may = split (thread == n)
+share_not_started : (n part index : ℕ) (e : Event) (t : ThreadState) → (part == index) ≡ false → MayStart n part e t
+    → share_of index (started n part e t) ≡ share_of index t
+share_not_started n part index (event.Invoke call thread o a) t other may = split (thread == n)
     (λ e.
     let m = may (eqb-true thread n e) in
-    let rest : filter (is_on place) (drop 1 t.rest) ≡ filter (is_on place) t.rest =
-    ap (λ xs. filter (is_on place) (drop 1 xs)) m.1.1 ∙ sym (ap (filter (is_on place)) m.1.1 ∙ filter_none (is_on place) (part, o) m.1.0 other) in
+    let rest : filter (is_on index) (drop 1 t.rest) ≡ filter (is_on index) t.rest =
+    ap (λ xs. filter (is_on index) (drop 1 xs)) m.1.1 ∙ sym (ap (filter (is_on index)) m.1.1 ∙ filter_none (is_on index) (part, o) m.1.0 other) in
     rw (e, other, rest, m.0) refl)
     (λ e. rw e refl)
-share_not_started n part place (event.Enter call thread attempt a) t other may = refl
-share_not_started n part place (event.Burst context call burst count end acts a failure) t other may = refl
-share_not_started n part place (event.Stage stage answers released) t other may = refl
-share_not_started n part place (event.Arrive frame kept) t other may = refl
+share_not_started n part index (event.Enter call thread attempt a) t other may = refl
+share_not_started n part index (event.Burst context call burst count end acts a failure) t other may = refl
+share_not_started n part index (event.Stage stage answers released) t other may = refl
+share_not_started n part index (event.Arrive frame kept) t other may = refl
 
-share_not_settled : (part place : ℕ) (t : ThreadState) (w : Waiting) (a : Option Answer) → (part == place) ≡ false → t.waiting ≡ Some w → w.part ≡ part
-    → share_of place (settled_by part t a) ≡ share_of place t
-share_not_settled part place t w None other e is = refl
-share_not_settled part place t w (Some a) other e is =
-    let waits : waiting_on place t.waiting ≡ None = ap (waiting_on place) e ∙ ap (λ (k : ℕ). if k == place then Some w else None) is ∙ not_here (part == place) other in
-    rw (filter_skip (is_from place) t.answers (part, a) other, waits) refl
+share_not_settled : (part index : ℕ) (t : ThreadState) (w : Waiting) (a : Option Answer) → (part == index) ≡ false → t.waiting ≡ Some w → w.part ≡ part
+    → share_of index (settled_by part t a) ≡ share_of index t
+share_not_settled part index t w None other e is = refl
+share_not_settled part index t w (Some a) other e is =
+    let waits : waiting_on index t.waiting ≡ None = ap (waiting_on index) e ∙ ap (λ (k : ℕ). if k == index then Some w else None) is ∙ not_here (part == index) other in
+    rw (filter_skip (is_from index) t.answers (part, a) other, waits) refl
   where
     not_here : (b : Bool) → b ≡ false → (if b then Some w else None) ≡ None
     not_here b h = rw h refl
 
-share_not_told : (part place : ℕ) (e : Event) (t : ThreadState) (w : Option Waiting) → (part == place) ≡ false → t.waiting ≡ w
-    → share_of place (settled part e t w) ≡ share_of place t
-share_not_told part place e t None other h = refl
-share_not_told part place e t (Some w) other h = split (w.part == part)
-    (λ k. ap (λ b. share_of place (settled_by part t (if b then answer_at w.call e else None))) k
-    ∙ share_not_settled part place t w (answer_at w.call e) other h (eqb-true w.part part k))
-    (λ k. ap (λ b. share_of place (settled_by part t (if b then answer_at w.call e else None))) k)
+share_not_reported : (part index : ℕ) (e : Event) (t : ThreadState) (w : Option Waiting) → (part == index) ≡ false → t.waiting ≡ w
+    → share_of index (settled part e t w) ≡ share_of index t
+share_not_reported part index e t None other h = refl
+share_not_reported part index e t (Some w) other h = split (w.part == part)
+    (λ k. ap (λ b. share_of index (settled_by part t (if b then answer_at w.call e else None))) k
+    ∙ share_not_settled part index t w (answer_at w.call e) other h (eqb-true w.part part k))
+    (λ k. ap (λ b. share_of index (settled_by part t (if b then answer_at w.call e else None))) k)
 
-pub share_other : (n part place : ℕ) (e : Event) (t : ThreadState) → (part == place) ≡ false → MayStart n part e t
-    → share_of place (thread_after part e (started n part e t)) ≡ share_of place t
-share_other n part place e t other may =
+pub share_other : (n part index : ℕ) (e : Event) (t : ThreadState) → (part == index) ≡ false → MayStart n part e t
+    → share_of index (thread_after part e (started n part e t)) ≡ share_of index t
+share_other n part index e t other may =
     let s : ThreadState = started n part e t in
-    share_not_told part place e s s.waiting other refl ∙ share_not_started n part place e t other may
+    share_not_reported part index e s s.waiting other refl ∙ share_not_started n part index e t other may
 
 -- ---- all threads
 
@@ -146,11 +146,11 @@ all_own n part e [] may = refl
 all_own n part e (t ∷ threads) may =
     ap₂ (λ (x : ThreadState) xs. x ∷ xs) (share_own n part e t may.0) (all_own (n + 1) part e threads may.1)
 
-pub all_other : (n part place : ℕ) (e : Event) (threads : List ThreadState) → (part == place) ≡ false → AllMay n part e threads
-    → map (share_of place) (threads_after n part e threads) ≡ map (share_of place) threads
-all_other n part place e [] other may = refl
-all_other n part place e (t ∷ threads) other may =
-    ap₂ (λ (x : ThreadState) xs. x ∷ xs) (share_other n part place e t other may.0) (all_other (n + 1) part place e threads other may.1)
+pub all_other : (n part index : ℕ) (e : Event) (threads : List ThreadState) → (part == index) ≡ false → AllMay n part e threads
+    → map (share_of index) (threads_after n part e threads) ≡ map (share_of index) threads
+all_other n part index e [] other may = refl
+all_other n part index e (t ∷ threads) other may =
+    ap₂ (λ (x : ThreadState) xs. x ∷ xs) (share_other n part index e t other may.0) (all_other (n + 1) part index e threads other may.1)
 
 -- the step is its thread's own
 may_start : (n part : ℕ) (e : Event) (t : ThreadState) (whole : List ThreadState) → slice_get whole n ≡ Some t → IsOwn whole part (step_of e) → MayStart n part e t
@@ -206,9 +206,9 @@ settled_counted part t w (Some a) h =
     let waits : waits_for t.waiting ≡ 1 = ap waits_for h in
     omega arith
 
-told_counted : (part : ℕ) (e : Event) (t : ThreadState) (w : Option Waiting) → t.waiting ≡ w → operations_of (settled part e t w) ≡ operations_of t
-told_counted part e t None h = refl
-told_counted part e t (Some w) h = settled_counted part t w (if w.part == part then answer_at w.call e else None) h
+reported_counted : (part : ℕ) (e : Event) (t : ThreadState) (w : Option Waiting) → t.waiting ≡ w → operations_of (settled part e t w) ≡ operations_of t
+reported_counted part e t None h = refl
+reported_counted part e t (Some w) h = settled_counted part t w (if w.part == part then answer_at w.call e else None) h
 
 -- each thread has its script's operations
 abbrev pub AreCounted : List ThreadSpec → List ThreadState → Type 0
@@ -224,7 +224,7 @@ counted_after n part e [] (t ∷ threads) may are = absurd are
 counted_after n part e (spec ∷ specs) [] may are = absurd are
 counted_after n part e (spec ∷ specs) (t ∷ threads) may are =
     let s : ThreadState = started n part e t in
-    (told_counted part e s s.waiting refl ∙ started_counted n part e t may.0 ∙ are.0, counted_after (n + 1) part e specs threads may.1 are.1)
+    (reported_counted part e s s.waiting refl ∙ started_counted n part e t may.0 ∙ are.0, counted_after (n + 1) part e specs threads may.1 are.1)
 
 pub counted_opening : (specs : List ThreadSpec) → AreCounted specs (map opening_thread specs)
 counted_opening [] = tt

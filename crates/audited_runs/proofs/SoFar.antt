@@ -8,14 +8,14 @@ use Rattle.part_laws.proofs.RunsDetermined.{step_named}
 use Rattle.run_laws.specs.Audit.{Section, is_complete, section_after}
 use Rattle.run_laws.specs.Fitting.{FitsFrom, IsNext, section_from}
 
--- the events are made by their steps, each of which may be taken and is the next of its kind; more may follow
+-- each event is made by its step, which may be taken and is the next of its kind; more events may follow
 abbrev pub FitsSoFar : Section → List Event → Type 0
 FitsSoFar s [] = Unit {0}
 FitsSoFar s (e ∷ events) =
     (enabled s.seat.run.state (step_of e) ≡ true) × (event_of s.seat.run.state (step_of e) ≡ e)
     × IsNext s (step_of e) × FitsSoFar (section_after s (step_of e)) events
 
--- one step more
+-- one more step
 pub so_far_more : (s : Section) (events : List Event) (t : Section) (x : Step) → section_from s events ≡ t → FitsSoFar s events
     → enabled t.seat.run.state x ≡ true → IsNext t x
     → FitsSoFar s (events ++ event_of t.seat.run.state x ∷ []) × (section_from s (events ++ event_of t.seat.run.state x ∷ []) ≡ section_after t x)

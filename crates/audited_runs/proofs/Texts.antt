@@ -14,7 +14,7 @@ use Rattle.nook_data.specs.declared.scenario.Scenario.{Scenario}
 use Rattle.nook_data.specs.declared.scenario.ThreadSpec.{ThreadSpec}
 use Rattle.run_laws.proofs.Reached.{parts_answered}
 use Rattle.sim_run.proofs.Publishing.{journals_are_heard}
-use Rattle.run_ends.specs.Journals.{with_part}
+use Rattle.run_results.specs.Journals.{with_part}
 use Rattle.sim_run.specs.Published.{heard_in_journals, published}
 use Rattle.run_laws.specs.Audit.{Done, Section, answers_in_order, done_of, each_of_part, journal_in, last_lines, own_listeners, published_in}
 use Rattle.run_laws.specs.Fitting.{fitting_text, sections_of}
@@ -24,25 +24,25 @@ use Rattle.audited_runs.proofs.Reached.{AreSections, IsReached}
 
 -- ---- what the sections leave
 
-sections_left : (specs : List ThreadSpec) (place : ℕ) (parts : List PartSpec) (seats : List RunningPart) (threads : List ThreadState)
-    → AreSections specs place parts seats threads → sections_of specs place parts (map journal_of seats) ≡ left_by place seats threads
+sections_left : (specs : List ThreadSpec) (index : ℕ) (parts : List PartSpec) (seats : List RunningPart) (threads : List ThreadState)
+    → AreSections specs index parts seats threads → sections_of specs index parts (map journal_of seats) ≡ left_by index seats threads
 unfolding sections_of
-sections_left specs place [] [] threads are = refl
-sections_left specs place [] (seat ∷ seats) threads are = absurd are
-sections_left specs place (spec ∷ parts) [] threads are = absurd are
-sections_left specs place (spec ∷ parts) (seat ∷ seats) threads are =
-    ap₂ (λ (x : Section) (xs : List Done). done_of x ∷ xs) are.0.is (sections_left specs (suc place) parts seats threads are.1)
+sections_left specs index [] [] threads are = refl
+sections_left specs index [] (seat ∷ seats) threads are = absurd are
+sections_left specs index (spec ∷ parts) [] threads are = absurd are
+sections_left specs index (spec ∷ parts) (seat ∷ seats) threads are =
+    ap₂ (λ (x : Section) (xs : List Done). done_of x ∷ xs) are.0.is (sections_left specs (suc index) parts seats threads are.1)
 
-same_count : (specs : List ThreadSpec) (place : ℕ) (parts : List PartSpec) (seats : List RunningPart) (threads : List ThreadState)
-    → AreSections specs place parts seats threads → length seats ≡ length parts
-same_count specs place [] [] threads are = refl
-same_count specs place [] (seat ∷ seats) threads are = absurd are
-same_count specs place (spec ∷ parts) [] threads are = absurd are
-same_count specs place (spec ∷ parts) (seat ∷ seats) threads are = ap suc (same_count specs (suc place) parts seats threads are.1)
+same_count : (specs : List ThreadSpec) (index : ℕ) (parts : List PartSpec) (seats : List RunningPart) (threads : List ThreadState)
+    → AreSections specs index parts seats threads → length seats ≡ length parts
+same_count specs index [] [] threads are = refl
+same_count specs index [] (seat ∷ seats) threads are = absurd are
+same_count specs index (spec ∷ parts) [] threads are = absurd are
+same_count specs index (spec ∷ parts) (seat ∷ seats) threads are = ap suc (same_count specs (suc index) parts seats threads are.1)
 
-journals_left : (place : ℕ) (seats : List RunningPart) (threads : List ThreadState) → map journal_in (left_by place seats threads) ≡ map journal_of seats
-journals_left place [] threads = refl
-journals_left place (seat ∷ seats) threads = ap {B = List (List Event)} (λ xs. seat.run.journal ∷ xs) (journals_left (suc place) seats threads)
+journals_left : (index : ℕ) (seats : List RunningPart) (threads : List ThreadState) → map journal_in (left_by index seats threads) ≡ map journal_of seats
+journals_left index [] threads = refl
+journals_left index (seat ∷ seats) threads = ap {B = List (List Event)} (λ xs. seat.run.journal ∷ xs) (journals_left (suc index) seats threads)
 
 -- ---- what listeners hear of sections one after another
 
@@ -71,7 +71,7 @@ heard_in_sections l part (d ∷ sections) =
     ∙ ap₂ (λ (n m : ℕ). n + m) (ap (heard_events l) (with_part_same part d.journal))
     (heard_in_sections l (suc part) sections ∙ ap (λ (k : ℕ). heard_in_journals l k (map journal_in sections)) (sym (add-one part)))
 
--- a listener's result is told by what it hears
+-- a listener's result is determined by what it hears
 result_same : (l : Listening) (xs ys : List (ℕ × Event)) → heard_events l xs ≡ heard_events l ys → tap_result l xs ≡ tap_result l ys
 result_same l xs ys h = ap {B = ℕ × Bool} (λ (n : ℕ).
     (if nat_le l.limit l.total then l.total else min l.limit (l.total + n), nat_lt (if nat_le l.limit l.total then l.total else min l.limit (l.total + n)) l.limit)) h

@@ -39,52 +39,52 @@ is_none_so (Some x) h = absurd (true≢false (sym h))
 end_parts : (s : Section) → is_complete s ≡ true → (has_nothing s.seat.coming ≡ true) × (next_any s.seat.run.state ≡ None)
 unfolding is_complete
 end_parts s h =
-    let behind = and_parts (has_nothing s.seat.coming) (is_none (next_any s.seat.run.state)) (and_parts (are_through s.threads) _ h).1 in
-    (behind.0, is_none_so (next_any s.seat.run.state) behind.1)
+    let rest_after = and_parts (has_nothing s.seat.coming) (is_none (next_any s.seat.run.state)) (and_parts (are_through s.threads) _ h).1 in
+    (rest_after.0, is_none_so (next_any s.seat.run.state) rest_after.1)
 
-part_settled : (threads : List ThreadSpec) (place : ℕ) (spec : PartSpec) (journal : List Event) → FitsFrom (opening_section threads place spec) journal
+part_settled : (threads : List ThreadSpec) (index : ℕ) (spec : PartSpec) (journal : List Event) → FitsFrom (opening_section threads index spec) journal
     → next_any (state_of spec journal) ≡ None
-part_settled threads place spec journal h =
-    let end : Section = section_from (opening_section threads place spec) journal in
-    ap next_any (sym (section_led (opening_section threads place spec) journal h).state)
-    ∙ (end_parts end (whole_complete (opening_section threads place spec) journal h)).1
+part_settled threads index spec journal h =
+    let end : Section = section_from (opening_section threads index spec) journal in
+    ap next_any (sym (section_led (opening_section threads index spec) journal h).state)
+    ∙ (end_parts end (whole_complete (opening_section threads index spec) journal h)).1
 
-all_settled : (threads : List ThreadSpec) (place : ℕ) (parts : List PartSpec) (journals : List (List Event)) → AllFit threads place parts journals → AreSettled parts journals
+all_settled : (threads : List ThreadSpec) (index : ℕ) (parts : List PartSpec) (journals : List (List Event)) → AllFit threads index parts journals → AreSettled parts journals
 unfolding AllFit
-all_settled threads place [] [] h = tt
-all_settled threads place [] (journal ∷ journals) h = absurd h
-all_settled threads place (spec ∷ parts) [] h = absurd h
-all_settled threads place (spec ∷ parts) (journal ∷ journals) h =
-    (part_settled threads place spec journal h.0, all_settled threads (suc place) parts journals h.1)
+all_settled threads index [] [] h = tt
+all_settled threads index [] (journal ∷ journals) h = absurd h
+all_settled threads index (spec ∷ parts) [] h = absurd h
+all_settled threads index (spec ∷ parts) (journal ∷ journals) h =
+    (part_settled threads index spec journal h.0, all_settled threads (suc index) parts journals h.1)
 
 -- ---- arrivals
 
--- the frames arrive in the journal behind its first n events
-record ArriveBehind (journal : List Event) (n : ℕ) (frames : List (List ℕ)) : Type 0 where
-  places : List ℕ
-  rising : IsRisingFrom n places
-  arrive : ArriveAt journal frames places
+-- the frames arrive in the journal after its first n events
+record ArriveAfter (journal : List Event) (n : ℕ) (frames : List (List ℕ)) : Type 0 where
+  numbers : List ℕ
+  rising : IsRisingFrom n numbers
+  arrive : ArriveAt journal frames numbers
 
-arrive_before : (journal : List Event) (n : ℕ) (frames : List (List ℕ)) → ArriveBehind journal (suc n) frames → ArriveBehind journal n frames
-arrive_before journal n frames h = record { places = h.places; rising = rising_before n h.places h.rising; arrive = h.arrive }
+arrive_before : (journal : List Event) (n : ℕ) (frames : List (List ℕ)) → ArriveAfter journal (suc n) frames → ArriveAfter journal n frames
+arrive_before journal n frames h = record { numbers = h.numbers; rising = rising_before n h.numbers h.rising; arrive = h.arrive }
 
-none_behind : (journal : List Event) (n : ℕ) (frames : List (List ℕ)) → has_nothing frames ≡ true → ArriveBehind journal n frames
-none_behind journal n [] h = record { places = []; rising = tt; arrive = tt }
-none_behind journal n (frame ∷ frames) h = absurd (true≢false (sym h))
+none_after : (journal : List Event) (n : ℕ) (frames : List (List ℕ)) → has_nothing frames ≡ true → ArriveAfter journal n frames
+none_after journal n [] h = record { numbers = []; rising = tt; arrive = tt }
+none_after journal n (frame ∷ frames) h = absurd (true≢false (sym h))
 
 frame_before : (journal : List Event) (n : ℕ) (frame : List ℕ) (kept : Bool) (coming : List (List ℕ)) → slice_get journal n ≡ Some (event.Arrive frame kept)
-    → arrival_of coming ≡ Some (step.Arrive frame) → ArriveBehind journal (suc n) (coming_after (step.Arrive frame) coming) → ArriveBehind journal n coming
+    → arrival_of coming ≡ Some (step.Arrive frame) → ArriveAfter journal (suc n) (coming_after (step.Arrive frame) coming) → ArriveAfter journal n coming
 frame_before journal n frame kept [] at next h = none_is_some next
 frame_before journal n frame kept (first ∷ coming) at next h =
     let same : frame ≡ first = cc in
     record {
-      places = suc n ∷ h.places;
+      numbers = suc n ∷ h.numbers;
       rising = (omega arith, h.rising);
       arrive = ((kept, record { event = event.Arrive frame kept; there = at; is = (same, refl) }), h.arrive);
     }
 
 event_before : (journal : List Event) (n : ℕ) (s : Section) (e : Event) → slice_get journal n ≡ Some e → IsNext s (step_of e)
-    → ArriveBehind journal (suc n) (coming_after (step_of e) s.seat.coming) → ArriveBehind journal n s.seat.coming
+    → ArriveAfter journal (suc n) (coming_after (step_of e) s.seat.coming) → ArriveAfter journal n s.seat.coming
 event_before journal n s (event.Invoke call thread o a) at next h = arrive_before journal n s.seat.coming h
 event_before journal n s (event.Enter call thread attempt a) at next h = arrive_before journal n s.seat.coming h
 event_before journal n s (event.Burst context call burst count end acts a failure) at next h = arrive_before journal n s.seat.coming h
@@ -92,9 +92,9 @@ event_before journal n s (event.Stage stage answers released) at next h = arrive
 event_before journal n s (event.Arrive frame kept) at next h = frame_before journal n frame kept s.seat.coming at next h
 
 arrive_from : (journal : List Event) (n : ℕ) (s : Section) (events : List Event) → FitsFrom s events → ((k : ℕ) → slice_get events k ≡ slice_get journal (n + k))
-    → ArriveBehind journal n s.seat.coming
+    → ArriveAfter journal n s.seat.coming
 unfolding FitsFrom section_after
-arrive_from journal n s [] h are = none_behind journal n s.seat.coming (end_parts s h).0
+arrive_from journal n s [] h are = none_after journal n s.seat.coming (end_parts s h).0
 arrive_from journal n s (e ∷ events) h are =
     event_before journal n s e (ap (slice_get journal) (plus n) ∙ sym (are 0)) h.2
     (arrive_from journal (suc n) (section_after s (step_of e)) events h.3 (λ k. are (suc k) ∙ ap (slice_get journal) (next n k)))
@@ -105,30 +105,30 @@ arrive_from journal n s (e ∷ events) h are =
     next : (n k : ℕ) → n + suc k ≡ suc n + k
     next n k = omega arith
 
-part_arrivals : (threads : List ThreadSpec) (place : ℕ) (spec : PartSpec) (journal : List Event) → FitsFrom (opening_section threads place spec) journal
+part_arrivals : (threads : List ThreadSpec) (index : ℕ) (spec : PartSpec) (journal : List Event) → FitsFrom (opening_section threads index spec) journal
     → HasArrivals journal spec.arrivals
-part_arrivals threads place spec journal h =
-    let a : ArriveBehind journal 0 spec.arrivals = arrive_from journal 0 (opening_section threads place spec) journal h (λ k. ap (slice_get journal) (none k)) in
-    record { places = a.places; rising = a.rising; arrive = a.arrive }
+part_arrivals threads index spec journal h =
+    let a : ArriveAfter journal 0 spec.arrivals = arrive_from journal 0 (opening_section threads index spec) journal h (λ k. ap (slice_get journal) (none k)) in
+    record { numbers = a.numbers; rising = a.rising; arrive = a.arrive }
   where
     none : (n : ℕ) → n ≡ 0 + n
     none n = omega arith
 
-all_arrivals : (threads : List ThreadSpec) (place : ℕ) (parts : List PartSpec) (journals : List (List Event)) → AllFit threads place parts journals → HaveArrivals parts journals
+all_arrivals : (threads : List ThreadSpec) (index : ℕ) (parts : List PartSpec) (journals : List (List Event)) → AllFit threads index parts journals → HaveArrivals parts journals
 unfolding AllFit
-all_arrivals threads place [] journals h = tt
-all_arrivals threads place (spec ∷ parts) [] h = absurd h
-all_arrivals threads place (spec ∷ parts) (journal ∷ journals) h =
-    (part_arrivals threads place spec journal h.0, all_arrivals threads (suc place) parts journals h.1)
+all_arrivals threads index [] journals h = tt
+all_arrivals threads index (spec ∷ parts) [] h = absurd h
+all_arrivals threads index (spec ∷ parts) (journal ∷ journals) h =
+    (part_arrivals threads index spec journal h.0, all_arrivals threads (suc index) parts journals h.1)
 
 -- ---- threads
 
-pub same_count : (threads : List ThreadSpec) (place : ℕ) (parts : List PartSpec) (journals : List (List Event)) → AllFit threads place parts journals → length journals ≡ length parts
+pub same_count : (threads : List ThreadSpec) (index : ℕ) (parts : List PartSpec) (journals : List (List Event)) → AllFit threads index parts journals → length journals ≡ length parts
 unfolding AllFit
-same_count threads place [] [] h = refl
-same_count threads place [] (journal ∷ journals) h = absurd h
-same_count threads place (spec ∷ parts) [] h = absurd h
-same_count threads place (spec ∷ parts) (journal ∷ journals) h = ap suc (same_count threads (suc place) parts journals h.1)
+same_count threads index [] [] h = refl
+same_count threads index [] (journal ∷ journals) h = absurd h
+same_count threads index (spec ∷ parts) [] h = absurd h
+same_count threads index (spec ∷ parts) (journal ∷ journals) h = ap suc (same_count threads (suc index) parts journals h.1)
 
 all_served : (n : ℕ) (whole threads : List ThreadSpec) (parts : List PartSpec) (journals : List (List Event)) → ((k : ℕ) → slice_get threads k ≡ slice_get whole (n + k))
     → AllByRecursion IsValidPart parts → AllByRecursion (IsValidThread (length journals)) threads → AllFit whole 0 parts journals

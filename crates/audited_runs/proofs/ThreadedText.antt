@@ -10,7 +10,7 @@ use Rattle.nook_data.specs.declared.steps.Event.{Event}
 use Rattle.nook_data.specs.declared.scenario.PartSpec.{PartSpec}
 use Rattle.nook_data.specs.declared.scenario.Scenario.{Scenario}
 use Rattle.nook_data.specs.declared.scenario.ThreadSpec.{ThreadSpec}
-use Rattle.run_ends.specs.Journals.{AreRuns, with_part}
+use Rattle.run_results.specs.Journals.{AreRuns, with_part}
 use Rattle.sim_run.specs.Published.{heard_in_journals}
 use Rattle.threaded_run.specs.Threaded.{IsThreaded, in_parts}
 use Rattle.run_laws.proofs.Leading.{section_led}
@@ -22,14 +22,14 @@ use Rattle.audited_runs.proofs.Threaded.{fitting_is_threaded}
 use Rattle.audited_runs.proofs.Unique.{answers_unique}
 
 -- the sections of journals that fit have these journals
-sections_have : (threads : List ThreadSpec) (place : ℕ) (parts : List PartSpec) (journals : List (List Event)) → AllFit threads place parts journals
-    → map journal_in (sections_of threads place parts journals) ≡ journals
+sections_have : (threads : List ThreadSpec) (index : ℕ) (parts : List PartSpec) (journals : List (List Event)) → AllFit threads index parts journals
+    → map journal_in (sections_of threads index parts journals) ≡ journals
 unfolding AllFit sections_of
-sections_have threads place [] [] h = refl
-sections_have threads place [] (journal ∷ journals) h = absurd h
-sections_have threads place (spec ∷ parts) [] h = absurd h
-sections_have threads place (spec ∷ parts) (journal ∷ journals) h =
-    ap₂ (λ (x : List Event) xs. x ∷ xs) (section_led (opening_section threads place spec) journal h.0).journal (sections_have threads (suc place) parts journals h.1)
+sections_have threads index [] [] h = refl
+sections_have threads index [] (journal ∷ journals) h = absurd h
+sections_have threads index (spec ∷ parts) [] h = absurd h
+sections_have threads index (spec ∷ parts) (journal ∷ journals) h =
+    ap₂ (λ (x : List Event) xs. x ∷ xs) (section_led (opening_section threads index spec) journal h.0).journal (sections_have threads (suc index) parts journals h.1)
 
 heard_in_parts : (l : Listening) (part : ℕ) (journals : List (List Event)) → heard_events l (in_parts part journals) ≡ heard_in_journals l part journals
 unfolding heard_events

@@ -1,8 +1,8 @@
--- Journals tell what each thread was answered.
+-- Journals determine what each thread was answered.
 use Rattle.std.proofs.Common.{◌≡◌, ℕ, zero, suc, ◌+◌, ◌==◌, Bool, true, Some, List, [], ◌∷◌, filter, length, slice_get, slice_index_or, refl, sym, ap, ap₂, ◌∙◌, subst, arith, eq-eqb, inl, inr, ◌⊎◌}
 use Rattle.std.specs.List.{AllByRecursion}
 use Rattle.desk_like.specs.Desks.{IsReply, IsAt, IsInvoke, IsReceipt, IsRisingFrom}
-use Rattle.nook_data.specs.Places.{at_number}
+use Rattle.nook_data.specs.Numbered.{at_number}
 use Rattle.nook_data.specs.Valid.{IsValidPart}
 use Rattle.nook_data.specs.declared.calls.Answer.{Answer}
 use Rattle.nook_data.specs.declared.steps.Event.{Event}
@@ -11,44 +11,44 @@ use Rattle.nook_data.specs.declared.calls.Op.{Op}
 use Rattle.nook_data.specs.declared.scenario.PartSpec.{PartSpec}
 use Rattle.nook_data.specs.declared.desks.Receipt.{Receipt}
 use Rattle.nook_data.specs.declared.scenario.ThreadSpec.{ThreadSpec}
-use Rattle.part_laws.proofs.Places.{split}
+use Rattle.part_laws.proofs.Indices.{split}
 use Rattle.part_laws.proofs.ValidFits.{valid_fits}
-use Rattle.run_ends.specs.Journals.{AreRuns}
+use Rattle.run_results.specs.Journals.{AreRuns}
 use Rattle.threaded_run.specs.Threaded.{AreServed, HaveReceipts, answers_by, invoked_on, journal_at}
 use Rattle.nook_data.proofs.Options.{none_is_some, same_inside}
 use Rattle.run_laws.specs.Audit.{is_on}
-use Rattle.audited_runs.proofs.Asked.{invoked_are, placed_are}
+use Rattle.audited_runs.proofs.Asked.{invoked_are, numbered_are}
 use Rattle.threaded_run.proofs.Counted.{if_false, if_true}
 use Rattle.audited_runs.proofs.Exact.{InvokedAt, IsInvokeOf}
 use Rattle.audited_runs.proofs.Once.{answered_once}
-use Rattle.audited_runs.proofs.Placed.{AreAll, passes_first, passes_not}
-use Rattle.threaded_run.proofs.Placed.{AreBehind, rest_behind}
+use Rattle.audited_runs.proofs.Numbered.{AreAll, passes_first, passes_not}
+use Rattle.threaded_run.proofs.Numbered.{ComeAfter, rest_after}
 use Rattle.audited_runs.proofs.Shares.{filter_same}
 use Rattle.threaded_run.specs.Others.{HaveNoOthers, is_invocation_by, operations_on}
 
--- ---- the places of all events of a kind
+-- ---- the numbers of all events of a kind
 
 module _ (test : Event → Bool) (journal : List Event) where
-  no_places : (places : List ℕ) → length places ≡ 0 → places ≡ []
-  no_places [] h = refl
-  no_places (place ∷ places) h = absurd (omega arith)
+  no_numbers : (numbers : List ℕ) → length numbers ≡ 0 → numbers ≡ []
+  no_numbers [] h = refl
+  no_numbers (index ∷ numbers) h = absurd (omega arith)
 
   wrong : (n : ℕ) → 0 ≡ suc n → ⊥
   wrong n e = omega arith
 
-  same_places : (n : ℕ) (events : List Event) (a b : List ℕ) → AreBehind journal n events → AreAll test journal n events a → AreAll test journal n events b → a ≡ b
-  same_places n [] a b are h k = no_places a h.count ∙ sym (no_places b k.count)
-  same_places n (e ∷ events) a b are h k = split (test e) (λ passes. by_places a b passes h k (λ x y. same_places (suc n) events x y (rest_behind journal n e events are)))
-      (λ fails. same_places (suc n) events a b (rest_behind journal n e events are) (passes_not test journal n e events a are fails h) (passes_not test journal n e events b are fails k))
+  same_positions : (n : ℕ) (events : List Event) (a b : List ℕ) → ComeAfter journal n events → AreAll test journal n events a → AreAll test journal n events b → a ≡ b
+  same_positions n [] a b are h k = no_numbers a h.count ∙ sym (no_numbers b k.count)
+  same_positions n (e ∷ events) a b are h k = split (test e) (λ passes. by_positions a b passes h k (λ x y. same_positions (suc n) events x y (rest_after journal n e events are)))
+      (λ fails. same_positions (suc n) events a b (rest_after journal n e events are) (passes_not test journal n e events a are fails h) (passes_not test journal n e events b are fails k))
     where
       one : test e ≡ true → length (filter test (e ∷ events)) ≡ suc (length (filter test events))
       one passes = ap length (filter_same test e events passes)
 
-      by_places : (a b : List ℕ) → test e ≡ true → AreAll test journal n (e ∷ events) a → AreAll test journal n (e ∷ events) b
+      by_positions : (a b : List ℕ) → test e ≡ true → AreAll test journal n (e ∷ events) a → AreAll test journal n (e ∷ events) b
           → ((x y : List ℕ) → AreAll test journal (suc n) events x → AreAll test journal (suc n) events y → x ≡ y) → a ≡ b
-      by_places [] b passes h k more = absurd (wrong (length (filter test events)) (h.count ∙ one passes))
-      by_places (x ∷ a) [] passes h k more = absurd (wrong (length (filter test events)) (k.count ∙ one passes))
-      by_places (x ∷ a) (y ∷ b) passes h k more =
+      by_positions [] b passes h k more = absurd (wrong (length (filter test events)) (h.count ∙ one passes))
+      by_positions (x ∷ a) [] passes h k more = absurd (wrong (length (filter test events)) (k.count ∙ one passes))
+      by_positions (x ∷ a) (y ∷ b) passes h k more =
           let first = passes_first test journal n e events x a are passes h in
           let other = passes_first test journal n e events y b are passes k in
           ap₂ (λ (z : ℕ) zs. z ∷ zs) (first.0 ∙ sym other.0) (more a b first.1 other.1)
@@ -106,32 +106,32 @@ module _ (journals : List (List Event)) (i : ℕ) where
           (λ f. sym (if_false (part == p) (x.at_invoke ∷ invoked_on p ops a) (invoked_on p ops a) f) ∙ e
           ∙ if_false (part == p) (y.at_invoke ∷ invoked_on p ops b) (invoked_on p ops b) f)
 
--- ---- the places of a thread's invocations
+-- ---- the numbers of a thread's invocations
 
-no_event : (place : ℕ) (P : Event → Type 0) → IsAt [] place P → ⊥
+no_event : (index : ℕ) (P : Event → Type 0) → IsAt [] index P → ⊥
 no_event zero P at = none_is_some at.there
-no_event (suc place) P at = none_is_some at.there
+no_event (suc index) P at = none_is_some at.there
 
-empty_places : (i : ℕ) (ops : List (ℕ × Op)) (places : List ℕ) → InvokedAt [] i ops places → places ≡ []
-empty_places i [] [] h = refl
-empty_places i [] (place ∷ places) h = absurd h
-empty_places i (o ∷ ops) [] h = refl
-empty_places i (o ∷ ops) (place ∷ places) h = absurd (no_event place (IsInvokeOf i o.1) h.0)
+empty_positions : (i : ℕ) (ops : List (ℕ × Op)) (numbers : List ℕ) → InvokedAt [] i ops numbers → numbers ≡ []
+empty_positions i [] [] h = refl
+empty_positions i [] (index ∷ numbers) h = absurd h
+empty_positions i (o ∷ ops) [] h = refl
+empty_positions i (o ∷ ops) (index ∷ numbers) h = absurd (no_event index (IsInvokeOf i o.1) h.0)
 
--- a part's journal has the thread's operations on the part; there is no journal where there is no part
-counted_at : (threads : List ThreadSpec) (i place : ℕ) (parts : List PartSpec) (journals : List (List Event)) → HaveNoOthers threads place parts journals → (k : ℕ)
-    → (length (filter (is_invocation_by i) (slice_index_or journals k [])) ≡ operations_on (place + k) (slice_get threads i)) ⊎ (slice_index_or journals k [] ≡ [])
-counted_at threads i place [] [] h k = inr refl
-counted_at threads i place [] (journal ∷ journals) h k = absurd h
-counted_at threads i place (spec ∷ parts) [] h k = absurd h
-counted_at threads i place (spec ∷ parts) (journal ∷ journals) h zero =
-    inl (h.0.invoked i ∙ ap (λ (p : ℕ). operations_on p (slice_get threads i)) (plus place))
+-- a part's journal has the thread's operations on the part; a part that does not exist has no journal
+counted_at : (threads : List ThreadSpec) (i index : ℕ) (parts : List PartSpec) (journals : List (List Event)) → HaveNoOthers threads index parts journals → (k : ℕ)
+    → (length (filter (is_invocation_by i) (slice_index_or journals k [])) ≡ operations_on (index + k) (slice_get threads i)) ⊎ (slice_index_or journals k [] ≡ [])
+counted_at threads i index [] [] h k = inr refl
+counted_at threads i index [] (journal ∷ journals) h k = absurd h
+counted_at threads i index (spec ∷ parts) [] h k = absurd h
+counted_at threads i index (spec ∷ parts) (journal ∷ journals) h zero =
+    inl (h.0.invoked i ∙ ap (λ (p : ℕ). operations_on p (slice_get threads i)) (plus index))
   where
     plus : (n : ℕ) → n ≡ n + 0
     plus n = omega arith
-counted_at threads i place (spec ∷ parts) (journal ∷ journals) h (suc k) =
-    elim (counted_at threads i (suc place) parts journals h.1 k) [
-      | inl e ↦ inl (e ∙ ap (λ (p : ℕ). operations_on p (slice_get threads i)) (next place k))
+counted_at threads i index (spec ∷ parts) (journal ∷ journals) h (suc k) =
+    elim (counted_at threads i (suc index) parts journals h.1 k) [
+      | inl e ↦ inl (e ∙ ap (λ (p : ℕ). operations_on p (slice_get threads i)) (next index k))
       | inr e ↦ inr e
     ]
   where
@@ -146,14 +146,14 @@ module _ (threads : List ThreadSpec) (parts : List PartSpec) (journals : List (L
       let ops : List (ℕ × Op) = filter (is_on part) t.ops in
       let on : InvokedAt j i ops (invoked_on part t.ops a) = invoked_are part j journals refl i t.ops a h in
       let on' : InvokedAt j i ops (invoked_on part t.ops b) = invoked_are part j journals refl i t.ops b k in
-      let placed = placed_are j i ops (invoked_on part t.ops a) on in
-      let placed' = placed_are j i ops (invoked_on part t.ops b) on' in
+      let indexed = numbered_are j i ops (invoked_on part t.ops a) on in
+      let indexed' = numbered_are j i ops (invoked_on part t.ops b) on' in
       elim (counted_at threads i 0 parts journals none part) [
-        | inl e ↦ same_places (is_invocation_by i) j 0 j (invoked_on part t.ops a) (invoked_on part t.ops b) (λ n. ap (slice_get j) (plus n))
-            (record { rising = rise; placed = placed.0; count = placed.1 ∙ sym (operations e) })
-            (record { rising = rise'; placed = placed'.0; count = placed'.1 ∙ sym (operations e) })
-        | inr e ↦ empty_places i ops (invoked_on part t.ops a) (subst (λ x. InvokedAt x i ops (invoked_on part t.ops a)) e on)
-            ∙ sym (empty_places i ops (invoked_on part t.ops b) (subst (λ x. InvokedAt x i ops (invoked_on part t.ops b)) e on'))
+        | inl e ↦ same_positions (is_invocation_by i) j 0 j (invoked_on part t.ops a) (invoked_on part t.ops b) (λ n. ap (slice_get j) (plus n))
+            (record { rising = rise; indexed = indexed.0; count = indexed.1 ∙ sym (operations e) })
+            (record { rising = rise'; indexed = indexed'.0; count = indexed'.1 ∙ sym (operations e) })
+        | inr e ↦ empty_positions i ops (invoked_on part t.ops a) (subst (λ x. InvokedAt x i ops (invoked_on part t.ops a)) e on)
+            ∙ sym (empty_positions i ops (invoked_on part t.ops b) (subst (λ x. InvokedAt x i ops (invoked_on part t.ops b)) e on'))
       ]
     where
       plus : (n : ℕ) → n ≡ 0 + n
@@ -190,7 +190,7 @@ all_once (spec ∷ parts) [] v runs k = absurd runs
 all_once (spec ∷ parts) (journal ∷ journals) v runs zero = λ call q r a b x y. answered_once spec journal call q r a b (valid_fits spec v.0) runs.0 x y
 all_once (spec ∷ parts) (journal ∷ journals) v runs (suc k) = all_once parts journals v.1 runs.1 k
 
--- runs that have just what was asked tell the answers of all threads
+-- runs that have exactly what was asked determine the answers of all threads
 pub answers_unique : (threads : List ThreadSpec) (parts : List PartSpec) (journals : List (List Event)) (a b : List (List (ℕ × Answer))) → AllByRecursion IsValidPart parts
     → AreRuns parts journals → HaveNoOthers threads 0 parts journals → AreServed journals 0 threads a → AreServed journals 0 threads b → a ≡ b
 answers_unique threads parts journals a b v runs none h k =

@@ -11,7 +11,7 @@ use Rattle.sim_run.specs.Bursts.{burst_found}
 use Rattle.turn_trace.specs.Retelling.{Retells}
 use Rattle.burst_trace.specs.Text.{event_end, inside_of, trace_lines, traced_in}
 
--- The text of a trace tells the burst that the journal shows.
+-- The text of a trace matches the burst in the journal.
 
 -- the context of a burst, and its number
 abbrev pub context_in : Event → ℕ
@@ -22,15 +22,15 @@ abbrev pub number_in : Event → ℕ
 number_in (event.Burst context call burst count end acts answer failure) = burst
 number_in _ = 0
 
--- a text tells a burst of a part: it shows the end that the burst's event has in the journal, and before it the turns
--- and strikes that retell the burst which the context does from the part's domain as it stands there
-pub record TellsBurst (specs : List PartSpec) (journals : List (List Event)) (place number : ℕ)
+-- a text matches a burst of a part: it shows the end that the burst's event has in the journal, and before it the
+-- instructions and strikes of the burst that the context runs from the part's domain at that moment
+pub record ReportsBurst (specs : List PartSpec) (journals : List (List Event)) (index number : ℕ)
     (text : List ℕ) : Type 0 where
   pub spec : PartSpec
   pub domain : DomainState
   pub shown : Event
-  pub found : burst_found number (Some spec) (slice_get journals place) ≡ Some (domain, shown)
-  pub is_part : slice_get specs place ≡ Some spec
+  pub found : burst_found number (Some spec) (slice_get journals index) ≡ Some (domain, shown)
+  pub is_part : slice_get specs index ≡ Some spec
   pub context : Context
   pub inside : inside_of (context_in shown) domain ≡ Some context
   pub head : List ℕ

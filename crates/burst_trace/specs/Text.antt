@@ -21,23 +21,23 @@ use Rattle.turn_trace.specs.Lines.{start_line, step_lines, unstruck_lines}
 
 -- The text of the trace of one burst of a run.
 
--- the first line: the part's place and name, the burst's number, its context and its call
+-- the first line: the part's index and name, the burst's number, its context and its call
 abbrev pub head_line : ℕ → PartSpec → ℕ → ℕ → ℕ → List ℕ
-head_line place spec burst context call =
-    with_number (codes "trace ") place ++ (codes " " ++ (spec.name ++ (with_number (codes " burst ") burst
+head_line index spec burst context call =
+    with_number (codes "trace ") index ++ (codes " " ++ (spec.name ++ (with_number (codes " burst ") burst
     ++ (with_number (codes " context ") context ++ (with_number (codes " call ") call ++ line_feed)))))
 
--- how the burst ended, as its event shows it: its turns, its end, its acts, its answer and its failure
+-- how the burst ended, as its event shows it: its count of instructions, its end, its acts, its answer and its failure
 abbrev pub end_line : ℕ → End → List Act → Option Answer → Option FailCause → List ℕ
 end_line count end acts answer failure =
     with_number (codes "n") count ++ (codes " "
     ++ ((end_text end ++ (acts_tail acts ++ (answer_tail answer ++ cause_tail failure))) ++ line_feed))
 
--- the burst of a context, from the domain as it stands before
+-- the burst of a context, from the domain before it
 abbrev pub traced_in : Context → List Fault → DomainState → TracedBurst
 traced_in x faults d = burst_trace d.entries faults (machine_of x d)
 
--- what the burst finds, and its steps
+-- the state at the start of the burst, and its steps
 abbrev pub burst_lines : Context → List Fault → DomainState → List ℕ
 burst_lines x faults d = start_line x.cpu ++ step_lines d.entries (traced_in x faults d).steps
 
@@ -53,7 +53,7 @@ abbrev pub trace_by : List ℕ → List ℕ → List Fault → DomainState → O
 trace_by head end faults d None = None
 trace_by head end faults d (Some x) = Some (trace_lines head end x faults d)
 
--- a context of a domain, where there is such a context and it is Inside
+-- a context of a domain, if it exists and is Inside
 abbrev pub inside_of : ℕ → DomainState → Option Context
 inside_of context d = if nat_le context SHADOW then context_of context d.contexts else None
 
@@ -66,25 +66,25 @@ event_end _ = []
 unfoldable pub part_lines : List ℕ → List ℕ → ℕ → ℕ → PartSpec → DomainState → Option (List ℕ)
 part_lines head end burst context spec d = trace_by head end (faults_of_burst burst spec.faults) d (inside_of context d)
 
--- the trace of a part's burst by its event, from the domain as it stands before
+-- the trace of a part's burst by its event, from the domain before it
 abbrev pub event_trace : ℕ → PartSpec → DomainState → Event → Option (List ℕ)
-event_trace place spec d (event.Burst context call burst count end acts answer failure) =
-    part_lines (head_line place spec burst context call) (end_line count end acts answer failure) burst context spec d
-event_trace place spec d _ = None
+event_trace index spec d (event.Burst context call burst count end acts answer failure) =
+    part_lines (head_line index spec burst context call) (end_line count end acts answer failure) burst context spec d
+event_trace index spec d _ = None
 
--- the trace of what is found of a burst of a part: its domain before it, and its event
+-- the trace of what was found of a part's burst: the domain before it, and its event
 abbrev pub found_trace : ℕ → Option PartSpec → Option (DomainState × Event) → Option (List ℕ)
-found_trace place None found = None
-found_trace place (Some spec) None = None
-found_trace place (Some spec) (Some found) = event_trace place spec found.0 found.1
+found_trace index None found = None
+found_trace index (Some spec) None = None
+found_trace index (Some spec) (Some found) = event_trace index spec found.0 found.1
 
--- the trace of a burst of the part at a place, from the journals of a run; none where they have no such burst
+-- the trace of a burst of part `index`, from the journals of a run; none if they have no such burst
 abbrev pub trace_text : List PartSpec → List (List Event) → ℕ → ℕ → Option (List ℕ)
-trace_text specs journals place burst =
-    found_trace place (slice_get specs place) (burst_found burst (slice_get specs place) (slice_get journals place))
+trace_text specs journals index burst =
+    found_trace index (slice_get specs index) (burst_found burst (slice_get specs index) (slice_get journals index))
 
 -- it is the trace of a burst of the scenario's scheduled run
-pub record IsTraceText (scenario : Scenario) (place burst : ℕ) (text : Option (List ℕ)) : Type 0 where
+pub record IsTraceText (scenario : Scenario) (index burst : ℕ) (text : Option (List ℕ)) : Type 0 where
   pub simulation : Simulation
   pub scheduled : IsScheduledRun scenario simulation
-  pub text_is : text ≡ trace_text scenario.parts (journals_of simulation) place burst
+  pub text_is : text ≡ trace_text scenario.parts (journals_of simulation) index burst

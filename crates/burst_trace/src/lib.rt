@@ -1,4 +1,4 @@
-//! One burst of a part in a scenario's run, told turn by turn.
+//! One burst of a part in a scenario's run, traced instruction by instruction.
 #![tactic(auto)]
 
 mod writing;

@@ -1,8 +1,9 @@
-//! The writing of a trace.
+//! Writes a trace.
 
 ghost use Rattle.std.specs.Prelude.{◌≡◌, ℕ, ◌++◌, false, IfOk, Ok, OnOk};
 ghost use Rattle.machine_defs.specs.BurstFaults.{faults_of_burst};
 ghost use Rattle.nook_data.specs.Valid.{IsValidScenario};
+ghost use Rattle.nook_io.specs.Changes.{change};
 ghost use Rattle.report_text.specs.Writing.{Wrote};
 ghost use Rattle.turn_trace.specs.Lines.{step_lines, unstruck_lines};
 ghost use Rattle.burst_trace.specs.Text.{burst_lines, end_line, event_end, event_trace, head_line, inside_of};
@@ -24,33 +25,33 @@ use sim_run::{FoundBurst, run_to_burst};
 use std::alloc::Global;
 use turn_trace::{trace_burst, write_start, write_unstruck};
 
-/// Writes the trace of burst number `burst` of the part at a place, counted from 0, in the scheduled run of a valid
-/// scenario: what the burst finds, a line for each turn and each fault that strikes, how it ends, and the faults that
-/// do not strike. Tells whether the run has such a part and the part such a burst; where not, nothing is written.
+/// Writes the trace of burst number `burst` of part `index`, counted from 0, in the scheduled run of a valid
+/// scenario: the state at its start, a line for each instruction and each fault that strikes, how it ends, and the
+/// faults that do not strike. Returns whether the run has such a part with such a burst; if not, nothing is written.
 ///
-/// The scenario runs up to that burst and no further. The burst is then done once, from the domain as it stood, and
+/// The scenario runs up to that burst and no further. The burst then runs once, from the domain before it, and
 /// each line is written when it is made.
 ///
 /// # Errors
 ///
-/// A fault of the sink, or want of memory. The sink has gained a front of the trace.
+/// The sink failed, or memory ran out. The sink has received a prefix of the trace.
 pub fn write_trace<K: Sink>(
     alloc: Global,
     scenario: &Scenario,
-    place: u32,
+    index: u32,
     burst: u32,
     sink: &mut K,
 ) -> Result<bool, WriteStop>
     requires { IsValidScenario scenario.now }
-    ensures written { Traces scenario.now place burst (K.held sink.old) (K.held sink.new) (K.count sink.old)
-        (K.count sink.new) result }
+    ensures written { Traces scenario.now index burst
+        (change K.held K.count sink.old sink.new) result }
     ensures untouched { result ≡ Ok false → sink.new ≡ sink.old }
 {
-    let Some(spec) = scenario.parts.as_slice().get(place as usize) else {
+    let Some(spec) = scenario.parts.as_slice().get(index as usize) else {
         return Ok(false);
     };
-    match run_to_burst(alloc, scenario, place, burst)? {
-        Some(found) => write_found(alloc, place, spec, found, sink),
+    match run_to_burst(alloc, scenario, index, burst)? {
+        Some(found) => write_found(alloc, index, spec, found, sink),
         None => Ok(false),
     }
 }
@@ -58,30 +59,30 @@ pub fn write_trace<K: Sink>(
 /// Writes the trace of a burst that was found.
 fn write_found<K: Sink>(
     alloc: Global,
-    place: u32,
+    index: u32,
     spec: &PartSpec,
     found: FoundBurst,
     sink: &mut K,
 ) -> Result<bool, WriteStop>
-    ensures written { WroteTrace (K.held sink.old) (K.held sink.new) (K.count sink.old) (K.count sink.new) result
-        (event_trace place spec.now found.domain.state found.event) }
+    ensures written { WroteTrace (change K.held K.count sink.old sink.new) result
+        (event_trace index spec.now found.domain.state found.event) }
     ensures untouched { result ≡ Ok false → sink.new ≡ sink.old }
 {
     let FoundBurst { domain, event } = found;
-    write_event(alloc, place, spec, domain, &event, sink)
+    write_event(alloc, index, spec, domain, &event, sink)
 }
 
-/// Writes the trace of a burst by its event, from the domain as it stands before.
+/// Writes the trace of a burst by its event, from the domain before it.
 fn write_event<K: Sink>(
     alloc: Global,
-    place: u32,
+    index: u32,
     spec: &PartSpec,
     domain: Domain,
     event: &Event,
     sink: &mut K,
 ) -> Result<bool, WriteStop>
-    ensures written { WroteTrace (K.held sink.old) (K.held sink.new) (K.count sink.old) (K.count sink.new) result
-        (event_trace place spec.now domain.state event.now) }
+    ensures written { WroteTrace (change K.held K.count sink.old sink.new) result
+        (event_trace index spec.now domain.state event.now) }
     ensures untouched { result ≡ Ok false → sink.new ≡ sink.old }
 {
     match event {
@@ -91,14 +92,14 @@ fn write_event<K: Sink>(
             burst,
             ..
         } => {
-            let head = head_of(alloc, place, spec, *burst, *context, *call)?;
+            let head = head_of(alloc, index, spec, *burst, *context, *call)?;
             write_part(alloc, &head, event, spec, domain, *burst, *context, sink)
         }
         _ => Ok(false),
     }
 }
 
-/// Writes the trace of a part's burst, whose first line is given.
+/// Writes the trace of a part's burst after the given first line.
 fn write_part<K: Sink>(
     alloc: Global,
     head: &Line,
@@ -109,7 +110,7 @@ fn write_part<K: Sink>(
     context: u8,
     sink: &mut K,
 ) -> Result<bool, WriteStop>
-    ensures written { WroteTrace (K.held sink.old) (K.held sink.new) (K.count sink.old) (K.count sink.new) result
+    ensures written { WroteTrace (change K.held K.count sink.old sink.new) result
         (part_lines head.now (event_end event.now) burst context spec.now domain.state) }
     ensures untouched { result ≡ Ok false → sink.new ≡ sink.old }
 {
@@ -126,8 +127,8 @@ fn script_of(alloc: Global, spec: &PartSpec) -> Result<FaultScript, NoMemory>
     FaultScript::new(spec.faults.copy(alloc)?)
 }
 
-/// Writes the trace of a domain's burst, whose first line is given, where the context is Inside.
-#[tactic(auto, using(crate::proofs::Telling::domain_cut, crate::proofs::Telling::domain_told, crate::proofs::Telling::domain_untold))]
+/// Writes the trace of a domain's burst after the given first line, if the context is Inside.
+#[tactic(auto, using(crate::proofs::Reporting::domain_cut, crate::proofs::Reporting::domain_reported, crate::proofs::Reporting::domain_untold))]
 fn write_domain<K: Sink>(
     alloc: Global,
     head: &Line,
@@ -137,8 +138,9 @@ fn write_domain<K: Sink>(
     context: u8,
     sink: &mut K,
 ) -> Result<bool, WriteStop>
-    ensures written { WroteTrace (K.held sink.old) (K.held sink.new) (K.count sink.old) (K.count sink.new) result
-        (trace_by head.now (event_end event.now) faults.now domain.state (inside_of context domain.state)) }
+    ensures written { WroteTrace (change K.held K.count sink.old sink.new) result
+        (trace_by head.now (event_end event.now) faults.now domain.state
+        (inside_of context domain.state)) }
     ensures untouched { result ≡ Ok false → sink.new ≡ sink.old }
 {
     match inside_of(&domain, context) {
@@ -150,7 +152,7 @@ fn write_domain<K: Sink>(
     }
 }
 
-/// Writes the trace of a context's burst, whose first line is given.
+/// Writes the trace of a context's burst after the given first line.
 fn write_inside<K: Sink>(
     alloc: Global,
     head: &Line,
@@ -160,7 +162,7 @@ fn write_inside<K: Sink>(
     faults: &[Fault],
     sink: &mut K,
 ) -> Result<(), WriteStop>
-    ensures { Wrote (K.held sink.old) (K.held sink.new) (K.count sink.old) (K.count sink.new) result
+    ensures { Wrote (change K.held K.count sink.old sink.new) result
         (trace_lines head.now (event_end event.now) inside.now faults.now domain.state) }
 {
     write_text(sink, head)?;
@@ -168,8 +170,8 @@ fn write_inside<K: Sink>(
     write_last(alloc, event, unstruck, sink)
 }
 
-/// Writes what a burst of a context finds, and its steps as they are taken. The faults that do not strike are handed
-/// back.
+/// Writes the state at the start of a context's burst, and its steps as they are taken. Returns the faults that do not
+/// strike.
 fn write_burst<'a, K: Sink>(
     alloc: Global,
     inside: &Context,
@@ -177,15 +179,16 @@ fn write_burst<'a, K: Sink>(
     faults: &'a [Fault],
     sink: &mut K,
 ) -> Result<&'a [Fault], WriteStop>
-    ensures written { Wrote (K.held sink.old) (K.held sink.new) (K.count sink.old) (K.count sink.new) result
+    ensures written { Wrote (change K.held K.count sink.old sink.new) result
         (burst_lines inside.now faults.now domain.state) }
-    ensures unstruck { IfOk result (λ rest. rest.now ≡ (traced_in inside.now faults.now domain.state).unstruck) }
+    ensures unstruck { IfOk result
+        (λ rest. rest.now ≡ (traced_in inside.now faults.now domain.state).unstruck) }
 {
     write_start(alloc, sink, &inside.cpu)?;
     write_steps(alloc, inside, domain, faults, sink)
 }
 
-/// Writes the steps of a context's burst as they are taken. The faults that do not strike are handed back.
+/// Writes the steps of a context's burst as they are taken. Returns the faults that do not strike.
 fn write_steps<'a, K: Sink>(
     alloc: Global,
     inside: &Context,
@@ -193,9 +196,10 @@ fn write_steps<'a, K: Sink>(
     faults: &'a [Fault],
     sink: &mut K,
 ) -> Result<&'a [Fault], WriteStop>
-    ensures written { Wrote (K.held sink.old) (K.held sink.new) (K.count sink.old) (K.count sink.new) result
+    ensures written { Wrote (change K.held K.count sink.old sink.new) result
         (step_lines domain.state.entries (traced_in inside.now faults.now domain.state).steps) }
-    ensures unstruck { IfOk result (λ rest. rest.now ≡ (traced_in inside.now faults.now domain.state).unstruck) }
+    ensures unstruck { IfOk result
+        (λ rest. rest.now ≡ (traced_in inside.now faults.now domain.state).unstruck) }
 {
     let mut cpu = inside.cpu;
     let mut bus = domain.detach();
@@ -209,7 +213,7 @@ fn write_last<K: Sink>(
     unstruck: &[Fault],
     sink: &mut K,
 ) -> Result<(), WriteStop>
-    ensures { Wrote (K.held sink.old) (K.held sink.new) (K.count sink.old) (K.count sink.new) result
+    ensures { Wrote (change K.held K.count sink.old sink.new) result
         (last_lines (event_end event.now) unstruck.now) }
 {
     write_end(alloc, event, sink)?;
@@ -218,15 +222,14 @@ fn write_last<K: Sink>(
 
 /// Writes how the burst of an event ended.
 fn write_end<K: Sink>(alloc: Global, event: &Event, sink: &mut K) -> Result<(), WriteStop>
-    ensures { Wrote (K.held sink.old) (K.held sink.new) (K.count sink.old) (K.count sink.new) result
-        (event_end event.now) }
+    ensures { Wrote (change K.held K.count sink.old sink.new) result (event_end event.now) }
 {
     let mut line = Line::new(alloc);
     push_event_end(&mut line, event)?;
     write_text(sink, &line)
 }
 
-/// A context of a domain, where there is such a context and it is Inside.
+/// A context of a domain, if it exists and is Inside.
 fn inside_of(domain: &Domain, context: u8) -> Option<Context>
     ensures { result ≡ inside_of context domain.now.state }
 {
@@ -236,34 +239,34 @@ fn inside_of(domain: &Domain, context: u8) -> Option<Context>
     domain.inside(context)
 }
 
-/// The first line, alone.
+/// The first line as a new line.
 fn head_of(
     alloc: Global,
-    place: u32,
+    index: u32,
     spec: &PartSpec,
     burst: u32,
     context: u8,
     call: u32,
 ) -> Result<Line, NoMemory>
-    ensures { IfOk result (λ line. line ≡ head_line place spec.now burst context call) }
+    ensures { IfOk result (λ line. line ≡ head_line index spec.now burst context call) }
 {
     let mut line = Line::new(alloc);
-    push_head(&mut line, place, spec, burst, context, call)?;
+    push_head(&mut line, index, spec, burst, context, call)?;
     Ok(line)
 }
 
 /// The first line.
 fn push_head(
     line: &mut Line,
-    place: u32,
+    index: u32,
     spec: &PartSpec,
     burst: u32,
     context: u8,
     call: u32,
 ) -> Result<(), NoMemory>
-    ensures { OnOk result (line.new ≡ line.old ++ head_line place spec.now burst context call) }
+    ensures { OnOk result (line.new ≡ line.old ++ head_line index spec.now burst context call) }
 {
-    push_number(line, "trace ", u64::from(place))?;
+    push_number(line, "trace ", u64::from(index))?;
     line.push(" ")?;
     line.push(spec.name.as_str())?;
     push_number(line, " burst ", u64::from(burst))?;
@@ -298,7 +301,8 @@ fn push_end(
     answer: &Option<Answer>,
     failure: Option<FailCause>,
 ) -> Result<(), NoMemory>
-    ensures { OnOk result (line.new ≡ line.old ++ end_line count end.now acts.now answer.now failure) }
+    ensures { OnOk result
+        (line.new ≡ line.old ++ end_line count end.now acts.now answer.now failure) }
 {
     push_number(line, "n", u64::from(count))?;
     line.push(" ")?;

@@ -13,26 +13,26 @@ use Rattle.run_defs.specs.Simulation.{IsScheduledRun, RunningPart, Simulation, b
 
 -- ---- runs
 
--- what was run: a scenario, to which a guard may have added its traps, its simulation, and the number of these traps
+-- a run: a scenario, to which a guard may have added its traps, its simulation, and the number of these traps
 pub record Ran : Type 0 where
   pub scenario : Scenario
   pub simulation : Simulation
   pub traps : ℕ
 
--- it is the scheduled run of a scenario
+-- the run is the scheduled run of a scenario
 pub record IsFreeRun (scenario : Scenario) (ran : Ran) : Type 0 where
   pub same : ran.scenario ≡ scenario
   pub scheduled : IsScheduledRun scenario ran.simulation
   pub no_traps : ran.traps ≡ 0
 
--- it is the guarded run of a scenario
+-- the run is the guarded run of a scenario
 pub record IsGuardedRunOf (scenario : Scenario) (ran : Ran) : Type 0 where
   pub guarded : IsGuardedSchedule scenario ran.simulation
   pub same : ran.scenario ≡ guarded_scenario scenario ran.simulation
   pub scheduled : IsScheduledRun ran.scenario ran.simulation
   pub count : ran.traps ≡ length (stops_found guarded.steps (begins scenario))
 
--- it is the run that a campaign makes of a scenario: with a guard the guarded run, else the scheduled run
+-- the run is the one that a campaign makes of a scenario: the guarded run with a guard, else the scheduled run
 abbrev pub IsRunUnder : Bool → Scenario → Ran → Type 0
 IsRunUnder true scenario ran = IsGuardedRunOf scenario ran
 IsRunUnder false scenario ran = IsFreeRun scenario ran
@@ -41,27 +41,27 @@ IsRunUnder false scenario ran = IsFreeRun scenario ran
 abbrev pub IsBaseRun : Plan → Ran → Type 0
 IsBaseRun plan ran = IsRunUnder plan.guard plan.base ran
 
--- the run of the member with some faults
+-- the run of the member with these faults
 abbrev pub IsMemberRun : Plan → List Fault → Ran → Type 0
 IsMemberRun plan faults ran = IsRunUnder plan.guard (struck_by plan.base plan.part faults) ran
 
 -- ---- members
 
--- a fault alone
+-- a list of one fault
 abbrev pub alone : Fault → List Fault
 alone fault = fault ∷ []
 
--- every fault of some kinds that strikes in a part's run, with a guard or without one
+-- every fault of some kinds that strikes in a part's run, with or without a guard
 abbrev pub every_under : Bool → List FaultKind → PartSpec → List Event → List Fault
 every_under true kinds spec journal = every_fault_guarded kinds spec journal
 every_under false kinds spec journal = every_fault kinds spec journal
 
--- the same of the part at a place, by the base's run
+-- every fault of some kinds that strikes in a part, from the part and its state in the base's run, if both exist
 abbrev pub every_of : Bool → List FaultKind → Option PartSpec → Option RunningPart → List Fault
 every_of guard kinds (Some spec) (Some seat) = every_under guard kinds spec seat.run.journal
 every_of guard kinds spec seat = []
 
--- the faults of each member, by what strikes and by the base's run
+-- the faults of each member, given what strikes and the base's run
 abbrev pub members_of : Plan → Strikes → Ran → List (List Fault)
 members_of plan (strikes.Faults faults) base = map alone faults
 members_of plan (strikes.Members lists) base = lists
@@ -72,7 +72,7 @@ members_of plan (strikes.Every kinds) base = map alone
 abbrev pub members : Plan → Ran → List (List Fault)
 members plan base = members_of plan plan.strikes base
 
--- a campaign runs every fault of some kinds
+-- the campaign runs every fault of some kinds
 abbrev pub runs_every : Strikes → Bool
 runs_every (strikes.Every kinds) = true
 runs_every (strikes.Faults faults) = false
@@ -80,11 +80,11 @@ runs_every (strikes.Members lists) = false
 
 -- ---- scenarios that can be run
 
--- a valid scenario; with a guard each part has room for its traps
+-- a valid scenario; with a guard, each part has room for its traps
 pub record CanRunUnder (guard : Bool) (scenario : Scenario) : Type 0 where
   pub valid : IsValidScenario scenario
   pub room : guard ≡ true → All HasRoom scenario.parts
 
--- the scenario of the member with some faults can be run
+-- the scenario of the member with these faults can be run
 abbrev pub CanRunMember : Plan → List Fault → Type 0
 CanRunMember plan faults = CanRunUnder plan.guard (struck_by plan.base plan.part faults)

@@ -19,17 +19,17 @@ use Rattle.run_defs.specs.Simulation.{answer_table, journals_of}
 
 -- ---- what is compared with the base's run
 
--- the lines of what a part is left with: the objects, what the device was left with or gave, the record, the losses
+-- the final lines of a part: the objects, the medium or output of the device, the record and the losses
 abbrev pub left_lines : Class → List Event → Losses → PartState → List ℕ
 left_lines c events n p =
     object_lines 1 12 p.domain.memory ++ (device_lines c events p
     ++ ((codes "config" ++ (flat_map spaced p.log.config ++ line_feed)) ++ losses_lines c n))
 
--- the same of a part's journal
+-- the final lines of a part from its journal
 abbrev pub left_text : PartSpec → List Event → List ℕ
 left_text spec events = left_lines spec.class events (losses events) (state_of spec events)
 
--- the same of some parts, each with its journal
+-- the final lines of some parts, each with its journal
 abbrev pub left_texts : List PartSpec → List (List Event) → List (List ℕ)
 left_texts [] journals = []
 left_texts (spec ∷ specs) [] = []
@@ -40,21 +40,21 @@ abbrev pub answer_texts : List (List (ℕ × Answer)) → List (List ℕ)
 answer_texts [] = []
 answer_texts (answers ∷ more) = answer_lines 1 answers ∷ answer_texts more
 
--- two lists of texts are the same
+-- the two lists of texts are equal
 abbrev pub texts_eq : List (List ℕ) → List (List ℕ) → Bool
 texts_eq [] [] = true
 texts_eq [] (other ∷ others) = false
 texts_eq (text ∷ texts) [] = false
 texts_eq (text ∷ texts) (other ∷ others) = if bytes_eq text other then texts_eq texts others else false
 
--- ---- what is said of the struck part
+-- ---- what is reported of the struck part
 
--- why a burst failed
+-- why a burst failed, if it did
 abbrev pub cause_of : Event → Option FailCause
 cause_of (event.Burst context call burst count end acts a failure) = failure
 cause_of e = None
 
--- why the first failing event of a journal failed
+-- the cause of the first failure in a journal
 abbrev pub first_cause : List Event → Option FailCause
 first_cause [] = None
 first_cause (e ∷ events) = elim (cause_of e) [ Some cause ↦ Some cause | None ↦ first_cause events ]
@@ -63,7 +63,7 @@ first_cause (e ∷ events) = elim (cause_of e) [ Some cause ↦ Some cause | Non
 abbrev pub first_clause : PartSpec → List Event → Option ℕ
 first_clause spec events = option_map (λ b. b.clause) (first_break spec.class spec.blocks events)
 
--- what is said of a part, where it and its journal are there
+-- the first clause that a part broke, if the part and its journal exist
 abbrev pub clause_at : Option PartSpec → Option (List Event) → Option ℕ
 clause_at (Some spec) (Some events) = first_clause spec events
 clause_at spec events = None
@@ -74,22 +74,22 @@ cause_at None = None
 
 -- ---- rows
 
--- the detail of a run beside the base's, of which the part at a place is struck
+-- the detail of a run compared with the base's, given the index of the struck part
 abbrev pub detail_of : ℕ → Ran → Ran → Detail
-detail_of place base ran =
+detail_of index base ran =
     let specs : List PartSpec = ran.scenario.parts in let journals : List (List Event) = journals_of ran.simulation in record {
       same_answers = texts_eq (answer_texts (answer_table base.simulation)) (answer_texts (answer_table ran.simulation));
       same_left = texts_eq (left_texts base.scenario.parts (journals_of base.simulation)) (left_texts specs journals);
-      clause = clause_at (slice_get specs place) (slice_get journals place);
-      cause = cause_at (slice_get journals place);
+      clause = clause_at (slice_get specs index) (slice_get journals index);
+      cause = cause_at (slice_get journals index);
     }
 
--- something where it is asked for
+-- a value, if it is requested
 abbrev pub if_asked : {T : Type 0} → Bool → T → Option T
 if_asked true it = Some it
 if_asked false it = None
 
--- the row of a run of a campaign, of which this is the base's run
+-- the row of a run of a campaign, given the base's run
 abbrev pub plan_row : Plan → Ran → Ran → Row
 plan_row plan base ran = record {
   counts = row_of ran.scenario.parts (journals_of ran.simulation) (answer_table ran.simulation);
@@ -97,7 +97,7 @@ plan_row plan base ran = record {
   traps = if_asked plan.guard ran.traps;
 }
 
--- the row of the member with some faults
+-- the row of the member with these faults
 pub record IsMemberRow (plan : Plan) (base : Ran) (faults : List Fault) (row : Row) : Type 0 where
   pub ran : Ran
   pub is_run : IsMemberRun plan faults ran

@@ -18,7 +18,7 @@ counts_text row =
     ++ (with_number (codes " failures ") row.failures ++ (with_number (codes " gone ") row.gone
     ++ with_number (codes " lost ") row.lost)))
 
--- whether something is as in the base's run
+-- whether something equals that of the base's run
 abbrev pub same_text : Bool → List ℕ
 same_text true = codes "same"
 same_text false = codes "other"
@@ -28,7 +28,7 @@ abbrev pub clause_text : Option ℕ → List ℕ
 clause_text None = codes "-"
 clause_text (Some clause) = decimal clause
 
--- why the struck part failed first
+-- the cause of the struck part's first failure
 abbrev pub first_cause_text : Option FailCause → List ℕ
 first_cause_text None = codes "-"
 first_cause_text (Some cause) = cause_text cause
@@ -52,14 +52,14 @@ cause_words (Some detail) = codes " cause " ++ first_cause_text detail.cause
 
 -- the line of a row with its number
 abbrev pub plan_row_line : ℕ → Row → List ℕ
-plan_row_line place row =
-    decimal place ++ (counts_text row.counts ++ (detail_text row.detail ++ (traps_text row.traps
+plan_row_line number row =
+    decimal number ++ (counts_text row.counts ++ (detail_text row.detail ++ (traps_text row.traps
     ++ (cause_words row.detail ++ line_feed))))
 
--- the lines of rows, the first of them number `place`
+-- the lines of rows; the first row has number `place`
 abbrev pub plan_row_lines : ℕ → List Row → List ℕ
-plan_row_lines place [] = []
-plan_row_lines place (row ∷ rows) = plan_row_line place row ++ plan_row_lines (suc place) rows
+plan_row_lines number [] = []
+plan_row_lines number (row ∷ rows) = plan_row_line number row ++ plan_row_lines (suc number) rows
 
 -- ---- the last line
 
@@ -67,12 +67,12 @@ abbrev pub counts_of : List Row → List MemberRow
 counts_of [] = []
 counts_of (row ∷ rows) = row.counts ∷ counts_of rows
 
--- the traps of a row
+-- the number of traps in a row
 abbrev pub traps_in : Option ℕ → ℕ
 traps_in None = 0
 traps_in (Some traps) = traps
 
--- the traps of all rows
+-- the number of traps in all rows
 abbrev pub traps_count : List Row → ℕ
 traps_count [] = 0
 traps_count (row ∷ rows) = traps_in row.traps + traps_count rows
@@ -82,26 +82,26 @@ abbrev pub if_guarded : Bool → ℕ → Option ℕ
 if_guarded true traps = Some traps
 if_guarded false traps = None
 
--- `campaign N kept A given_up B broken C`, and ` traps T` behind it, if the campaign is guarded
-abbrev pub plan_tally_line : ℕ → ℕ → ℕ → ℕ → Option ℕ → List ℕ
-plan_tally_line members kept given_up broken traps =
+-- `campaign N kept A given_up B broken C`, followed by ` traps T` if the campaign is guarded
+abbrev pub plan_effects_line : ℕ → ℕ → ℕ → ℕ → Option ℕ → List ℕ
+plan_effects_line members kept given_up broken traps =
     with_number (codes "campaign ") members ++ (with_number (codes " kept ") kept
     ++ (with_number (codes " given_up ") given_up ++ (with_number (codes " broken ") broken
     ++ (traps_text traps ++ line_feed))))
 
--- the last line of a table: how many members there are, how many have status 0, 1 and 7, and the traps of all
+-- the last line of a table: the number of members, how many have status 0, 1 and 7, and the number of all traps
 abbrev pub plan_last_line : Bool → List Row → List ℕ
-plan_last_line guard rows = plan_tally_line (length rows) (status_count 0 (counts_of rows))
+plan_last_line guard rows = plan_effects_line (length rows) (status_count 0 (counts_of rows))
     (status_count 1 (counts_of rows)) (status_count 7 (counts_of rows)) (if_guarded guard (traps_count rows))
 
 -- ---- a table
 
--- the row of the base's run, numbered 0, if every fault of some kinds is run
+-- the row of the base's run, with number 0, if every fault of some kinds is run
 abbrev pub base_line : Bool → Row → List ℕ
 base_line true row = plan_row_line 0 row
 base_line false row = []
 
--- the text of a table, by its base's run and the rows of its members
+-- the text of a table, from its base's run and the rows of its members
 abbrev pub plan_table_text : Plan → Ran → List Row → List ℕ
 plan_table_text plan base rows =
     base_line (runs_every plan.strikes) (plan_row plan base base)

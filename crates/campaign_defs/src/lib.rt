@@ -1,4 +1,4 @@
-//! Definitions of the runs of a campaign and of its table: a row for each run.
+//! Definitions of the runs of a campaign and of its table, which has a row for each run.
 #![tactic(auto)]
 
 pub mod row;

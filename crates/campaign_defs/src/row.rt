@@ -7,13 +7,13 @@ use nook_data::steps::FailCause;
 /// How a member's run compares with the base's, and what its struck part did.
 #[derive(Clone, Copy, Debug, PartialEq, Eq)]
 pub struct Detail {
-    /// Whether each thread has the answers that it has in the base's run.
+    /// Whether each thread has the same answers as in the base's run.
     pub same_answers: bool,
-    /// Whether each part is left with what it is left with in the base's run.
+    /// Whether each part has the same final lines as in the base's run.
     pub same_left: bool,
     /// The number of the first clause that the struck part broke.
     pub clause: Option<u8>,
-    /// Why the struck part failed first.
+    /// The cause of the struck part's first failure.
     pub cause: Option<FailCause>,
 }
 
@@ -23,7 +23,7 @@ pub struct Row {
     pub counts: MemberRow,
     /// Present if the campaign asks for it.
     pub detail: Option<Detail>,
-    /// The traps of the guard in all parts; present if the campaign is guarded.
+    /// The number of the guard's traps in all parts; present if the campaign is guarded.
     pub traps: Option<u64>,
 }
 

@@ -1,4 +1,4 @@
--- The table of every fault speaks of every fault.
+-- The table of every fault covers every fault.
 use Rattle.std.proofs.Common.{◌≡◌, ◌∙◌, ◌⊎◌, inl, inr, ℕ, zero, suc, ◌<◌, Bool, true, false, List, [], ◌∷◌, ◌++◌, map, length, Option, Some, None, slice_get, ap, refl, subst, sym, arith}
 use Rattle.std.proofs.lemmas.List.{length-map}
 use Rattle.std.specs.List.{AllZip}
@@ -29,17 +29,17 @@ use Rattle.report_defs.specs.Campaigns.{IsRowOf, row_of}
 use Rattle.report_defs.specs.ReportText.{status_of}
 use Rattle.run_defs.specs.Simulation.{IsScheduledRun, RunningPart, Simulation, answer_table, begins, journals_of, runs}
 
--- ---- one fault alone
+-- ---- a single fault
 
-struck_alone_parts : (parts : List PartSpec) (place : ℕ) (f : Fault) (o : Option PartSpec)
-    → with_struck_by parts place (alone f) o ≡ with_struck parts place f o
-struck_alone_parts parts place f None = refl
-struck_alone_parts parts place f (Some part) = refl
+struck_alone_parts : (parts : List PartSpec) (index : ℕ) (f : Fault) (o : Option PartSpec)
+    → with_struck_by parts index (alone f) o ≡ with_struck parts index f o
+struck_alone_parts parts index f None = refl
+struck_alone_parts parts index f (Some part) = refl
 
-struck_alone : (scenario : Scenario) (place : ℕ) (f : Fault) → struck_by scenario place (alone f) ≡ struck scenario place f
-struck_alone scenario place f =
+struck_alone : (scenario : Scenario) (index : ℕ) (f : Fault) → struck_by scenario index (alone f) ≡ struck scenario index f
+struck_alone scenario index f =
     ap (λ (parts : List PartSpec). record scenario { parts = parts })
-    (struck_alone_parts scenario.parts place f (slice_get scenario.parts place))
+    (struck_alone_parts scenario.parts index f (slice_get scenario.parts index))
 
 -- ---- lists
 
@@ -140,7 +140,7 @@ module _ (plan : Plan) (kinds : List FaultKind) (base : Ran) (rows : List Row) (
         status_is = ends.status_is;
       }
 
-  -- a fault that is listed has a row, which is that of its run
+  -- a listed fault has a row, which is that of its run
   listed_certified : plan.guard ≡ true → IsIn (every_fault_guarded kinds spec seat.run.journal) f
       → EndsWellUnder true (struck plan.base plan.part f)
   listed_certified guarded (front, back, e) =
@@ -159,7 +159,7 @@ module _ (plan : Plan) (kinds : List FaultKind) (base : Ran) (rows : List Row) (
             ∙ sym (ap (λ (r : Row). r.counts.status) is.same) ∙ zero_row;
       }
 
-  -- a fault that no burst reaches leaves the base's guarded run
+  -- a fault that no burst reaches does not change the base's guarded run
   past_certified : plan.guard ≡ true → IsUnreachedGuarded f spec seat.run.journal
       → EndsWellUnder true (struck plan.base plan.part f)
   past_certified guarded past =

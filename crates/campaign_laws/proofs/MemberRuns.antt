@@ -21,13 +21,13 @@ use Rattle.sim_run.specs.Reached.{AreSeatsOf, IsSeatOf}
 
 -- ---- every fault that strikes in the base's run
 
-seat_at : (specs : List PartSpec) (seats : List RunningPart) (place : ℕ) (spec : PartSpec) (seat : RunningPart)
-    → AreSeatsOf specs seats → slice_get specs place ≡ Some spec → slice_get seats place ≡ Some seat → IsSeatOf spec seat
-seat_at [] seats place spec seat are there at = none_is_some there
-seat_at (x ∷ specs) [] place spec seat are there at = absurd are
+seat_at : (specs : List PartSpec) (seats : List RunningPart) (index : ℕ) (spec : PartSpec) (seat : RunningPart)
+    → AreSeatsOf specs seats → slice_get specs index ≡ Some spec → slice_get seats index ≡ Some seat → IsSeatOf spec seat
+seat_at [] seats index spec seat are there at = none_is_some there
+seat_at (x ∷ specs) [] index spec seat are there at = absurd are
 seat_at (x ∷ specs) (y ∷ seats) zero spec seat are there at =
     subst (λ (s : PartSpec). IsSeatOf s seat) (same_inside there) (subst (IsSeatOf x) (same_inside at) are.0)
-seat_at (x ∷ specs) (y ∷ seats) (suc place) spec seat are there at = seat_at specs seats place spec seat are.1 there at
+seat_at (x ∷ specs) (y ∷ seats) (suc index) spec seat are there at = seat_at specs seats index spec seat are.1 there at
 
 module _ (plan : Plan) (base : Ran) (valid : IsValidPlan plan) (kinds : List FaultKind) (kinds_are : All IsValidKind kinds) where
   part_valid : (spec : PartSpec) → slice_get plan.base.parts plan.part ≡ Some spec → IsValidPart spec

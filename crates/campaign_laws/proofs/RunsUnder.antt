@@ -1,4 +1,4 @@
--- A scenario that can be run has one run under a campaign's guard, and this is a run of a valid scenario.
+-- A scenario that can be run has one run under a campaign's guard, and it is a run of a valid scenario.
 use Rattle.std.proofs.Common.{◌≡◌, ◌∙◌, ℕ, Bool, true, false, length, refl, sym, ap, subst}
 use Rattle.campaign_defs.specs.Members.{CanRunUnder, IsRunUnder, Ran}
 use Rattle.campaign_laws.proofs.Traps.{traps_once}
@@ -51,7 +51,7 @@ run_under_once true scenario ran other a b =
     same_ran ran other (a.same ∙ (ap (guarded_scenario scenario) same ∙ sym b.same)) same
     (a.count ∙ (ap length (traps_once scenario ran.simulation other.simulation a.guarded b.guarded) ∙ sym b.count))
 
--- ---- it is of a valid scenario
+-- ---- it is the run of a valid scenario
 
 pub run_under_valid : (guard : Bool) (scenario : Scenario) (ran : Ran) → CanRunUnder guard scenario → IsRunUnder guard scenario ran
     → IsValidScenario ran.scenario

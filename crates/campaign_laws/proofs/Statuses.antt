@@ -1,4 +1,4 @@
--- The status of a guarded run, by the parts that it ends in.
+-- The status of a guarded run, by the parts at its end.
 use Rattle.std.proofs.Common.{◌≡◌, ◌∙◌, ℕ, suc, ◌+◌, Bool, false, if◌then◌else◌, ◌||◌, is_some, List, [], ◌∷◌, map, Some, None, slice_get, ap, refl, subst, sym}
 use Rattle.front_laws.proofs.FirstStops.{guarded_keeps}
 use Rattle.front_laws.proofs.GuardedRuns.{guarded_scheduled}
@@ -16,7 +16,7 @@ use Rattle.run_defs.specs.Simulation.{IsScheduledRun, RunningPart, Simulation, j
 use Rattle.sim_run.proofs.Reaching.{seats_of_runs}
 use Rattle.sim_run.specs.Reached.{AreSeatsOf}
 
--- some part is given up
+-- some part was given up
 abbrev pub gone_in_parts : List RunningPart → Bool
 gone_in_parts [] = false
 gone_in_parts (seat ∷ seats) = is_given_up seat.run.state || gone_in_parts seats
@@ -31,7 +31,7 @@ gone_is (spec ∷ specs) (seat ∷ seats) are =
     ap (λ (p : PartState). is_given_up p || has_given_up specs (map journal_of seats)) (sym are.0.state)
     ∙ ap (λ (b : Bool). is_given_up seat.run.state || b) (gone_is specs seats are.1)
 
--- the faults of a part do not say whether it is given up
+-- the faults of a part do not affect whether it was given up
 pub gone_owned : (change : ℕ → List Fault → List Fault) (n : ℕ) (seats : List RunningPart)
     → gone_in_parts (owning change n seats) ≡ gone_in_parts seats
 gone_owned change n [] = refl
@@ -39,19 +39,19 @@ gone_owned change n (seat ∷ seats) =
     ap (λ (b : Bool). is_given_up seat.run.state || b) (gone_owned change (n + 1) seats)
 
 no_break : (seats : List RunningPart)
-    → ((place : ℕ) (seat : RunningPart) → slice_get seats place ≡ Some seat
+    → ((index : ℕ) (seat : RunningPart) → slice_get seats index ≡ Some seat
     → first_break (spec_of seat).class (spec_of seat).blocks seat.run.journal ≡ None)
     → has_break (map spec_of seats) (map journal_of seats) ≡ false
 unfolding has_break
 no_break [] none = refl
 no_break (seat ∷ seats) none =
     ap (λ o. is_some o || has_break (map spec_of seats) (map journal_of seats)) (none 0 seat refl)
-    ∙ no_break seats (λ place s at. none (suc place) s at)
+    ∙ no_break seats (λ index s at. none (suc index) s at)
 
 abbrev pub status_by : Bool → Bool → ℕ
 status_by broken gone = if broken then 7 else if gone then 1 else 0
 
--- no driver of a guarded run breaks its contract, so that its status says whether a part was given up
+-- no driver of a guarded run breaks its contract, so its status says whether a part was given up
 pub guarded_status : (asked : Scenario) (s : Simulation) → IsGuardedSchedule asked s
     → status_of (map spec_of s.parts) (journals_of s) ≡ status_by false (gone_in_parts s.parts)
 guarded_status asked s guarded =

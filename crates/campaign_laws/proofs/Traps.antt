@@ -1,4 +1,4 @@
--- A guarded run has the same traps, whatever the number of steps after which it is seen to have ended.
+-- A guarded run has the same traps, no matter after how many steps it is seen to have ended.
 use Rattle.std.proofs.Common.{◌≡◌, ℕ, zero, suc, List, [], ◌∷◌, ◌++◌, refl, sym, ap, ◌∙◌}
 use Rattle.front_laws.proofs.GuardedRuns.{guarded_on, guarded_runs_is}
 use Rattle.front_laws.proofs.Unique.{guarded_still}
@@ -7,14 +7,14 @@ use Rattle.guard_defs.specs.declared.stop.Stop.{Stop}
 use Rattle.nook_data.specs.declared.scenario.Scenario.{Scenario}
 use Rattle.run_defs.specs.Simulation.{Choice, Simulation, begins, choices_of}
 
--- where no actor has a step, no trap is found
+-- if no actor has a step, no trap is found
 none_found : (n : ℕ) (s : Simulation) → choices_of s ≡ [] → stops_found n s ≡ []
 unfolding stops_found stop_made
 none_found zero s none = refl
 none_found (suc n) s none =
     ap (λ (choices : List Choice). stop_made s choices ++ stops_found n (guarded_moved s choices)) none ∙ none_found n s none
 
--- one guarded step, and the others
+-- one guarded step, followed by the others
 runs_moved : (n : ℕ) (s : Simulation) → guarded_runs (suc n) s ≡ guarded_runs n (guarded_moved s (choices_of s))
 runs_moved n s = guarded_runs_is n s ∙ by_choices (choices_of s) refl
   where

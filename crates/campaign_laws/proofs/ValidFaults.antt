@@ -1,13 +1,13 @@
 -- Every fault that strikes in a valid part's run is a valid fault.
 use Rattle.std.proofs.Common.{◌≡◌, ◌∙◌, ◌≤◌, ◌<◌, ◌^◌, ℕ, zero, suc, ◌+◌, List, [], ◌∷◌, map, All, cond, Option, Some, None, refl, sym, ap, subst, arith}
 use Rattle.std.proofs.lemmas.List.Elements.{All-append, All-map, All-nil, All-weaker}
-use Rattle.front_laws.proofs.GuardRun.{IsTrapOf, fit_behind, guarded_well, trap_is}
+use Rattle.front_laws.proofs.GuardRun.{IsTrapOf, fit_following, guarded_well, trap_is}
 use Rattle.front_laws.proofs.GuardStep.{stopped}
 use Rattle.front_laws.proofs.Past.{turns_high}
 use Rattle.front_laws.proofs.Unreached.{bursts_after, is_burst_step}
 use Rattle.front_laws.specs.Guarded.{IsGuardedWell, guarded_at}
 use Rattle.guard_defs.specs.Every.{every_fault, every_fault_guarded, every_from, every_guarded_from, faults_in, faults_of_step, open_turns, put_at, turns_made}
-use Rattle.guard_defs.specs.Guard.{IsGuardedRun, guard, guard_trap, guarded, guarded_from, known_at_first, trap_for, traps_of, with_behind}
+use Rattle.guard_defs.specs.Guard.{IsGuardedRun, guard, guard_trap, guarded, guarded_from, known_at_first, trap_for, traps_of, with_after}
 use Rattle.machine_defs.specs.BurstFaults.{faults_of_burst}
 use Rattle.nook_data.specs.Valid.{IsValidFault, IsValidKind, IsValidPart}
 use Rattle.nook_data.specs.declared.clause.Clause.{Clause}
@@ -31,24 +31,24 @@ use Rattle.promise_defs.specs.Contract.{Known, broken, known_after}
 
 put_valid : (burst after : ℕ) → 1 ≤ burst → burst < 2 ^ 32 → after ≤ 4095 → (kind : FaultKind) → IsValidKind kind
     → IsValidFault (put_at burst after kind)
-put_valid burst after first low place kind is = record { burst = (first, low); after = place; kind = is }
+put_valid burst after first low index kind is = record { burst = (first, low); after = index; kind = is }
 
 kinds_valid : (kinds : List FaultKind) (burst after : ℕ) → 1 ≤ burst → burst < 2 ^ 32 → after ≤ 4095 → All IsValidKind kinds
     → All IsValidFault (map (put_at burst after) kinds)
-kinds_valid kinds burst after first low place are =
+kinds_valid kinds burst after first low index are =
     All-map IsValidFault (put_at burst after) kinds
-    (All-weaker IsValidKind (λ kind. IsValidFault (put_at burst after kind)) (put_valid burst after first low place) kinds are)
+    (All-weaker IsValidKind (λ kind. IsValidFault (put_at burst after kind)) (put_valid burst after first low index) kinds are)
 
 burst_valid : (kinds : List FaultKind) (burst after turns : ℕ) → 1 ≤ burst → burst < 2 ^ 32 → after + turns ≤ 4096
     → All IsValidKind kinds → All IsValidFault (faults_in kinds burst after turns)
 unfolding faults_in
-burst_valid kinds burst after zero first low place are = All-nil IsValidFault
-burst_valid kinds burst after (suc turns) first low place are =
+burst_valid kinds burst after zero first low index are = All-nil IsValidFault
+burst_valid kinds burst after (suc turns) first low index are =
     All-append IsValidFault (map (put_at burst after) kinds) (faults_in kinds burst (after + 1) turns)
-    (kinds_valid kinds burst after first low (omega (arith, place)) are)
-    (burst_valid kinds burst (after + 1) turns first low (omega (arith, place)) are)
+    (kinds_valid kinds burst after first low (omega (arith, index)) are)
+    (burst_valid kinds burst (after + 1) turns first low (omega (arith, index)) are)
 
--- ---- the turns before which one more fault strikes
+-- ---- the instructions before which one more fault strikes
 
 few_turns : (p : PartState) (o : Option Context) → turns_made p o ≤ 4096
 few_turns p None = omega arith
@@ -148,8 +148,8 @@ every_guarded_is_valid kinds spec journal valid run are =
     let fits : IsFitSpec spec = valid_fits spec valid in
     let traps : List Fault = traps_of spec journal in
     let well : IsGuardedWell spec journal = guarded_well spec journal fits run in
-    let few : (state_of (with_behind traps spec) journal).bursts < 2 ^ 23 =
-    run_few_bursts (with_behind traps spec) journal (fit_behind spec traps fits) valid.limit well.run in
-    let same : (state_of (with_behind traps spec) journal).bursts ≡ (guarded_at spec journal).bursts =
+    let few : (state_of (with_after traps spec) journal).bursts < 2 ^ 23 =
+    run_few_bursts (with_after traps spec) journal (fit_following spec traps fits) valid.limit well.run in
+    let same : (state_of (with_after traps spec) journal).bursts ≡ (guarded_at spec journal).bursts =
     ap (λ (p : PartState). p.bursts) well.state in
     guarded_from_valid kinds (opening spec) (known_at_first spec) journal (omega (arith, few, same)) are

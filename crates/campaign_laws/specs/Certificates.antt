@@ -12,7 +12,7 @@ use Rattle.run_defs.specs.Simulation.{journals_of}
 abbrev pub AllEndWell : List Row → Type 0
 AllEndWell rows = (row : Row) → IsIn rows row → row.counts.status ≡ 0
 
--- the run that a campaign makes of a scenario ends with status 0
+-- a campaign's run of the scenario ends with status 0
 pub record EndsWellUnder (guard : Bool) (scenario : Scenario) : Type 0 where
   pub ran : Ran
   pub is_run : IsRunUnder guard scenario ran

@@ -14,8 +14,8 @@ pub fn the_base_can_run()
 {}
 
 /// Every member of a valid plan can be run, whatever strikes: its scenario is valid, and if the campaign has a guard,
-/// each part has room for the guard's traps. So no fault that a campaign makes, among them every fault of some kinds in
-/// the base's run, has to be left out or refused.
+/// each part has room for the guard's traps. So a campaign never has to omit or refuse a fault that it makes, including
+/// every fault of some kinds in the base's run.
 pub fn every_member_can_run()
     ensures { (plan : Plan) (base : Ran) → IsValidPlan plan → IsBaseRun plan base
         → All (CanRunMember plan) (members plan base) }
@@ -28,13 +28,13 @@ pub fn every_scenario_has_a_run_under()
 {}
 
 /// A scenario has at most one run, with or without a guard: the scenario that was run, the simulation and the number of
-/// traps are the same each time. So a row says something of its member, and not of the program that made it.
+/// traps are the same each time. So a row depends on its member, and not on the program that made it.
 pub fn a_run_under_is_one()
     ensures { (guard : Bool) (scenario : Scenario) (ran other : Ran) → IsRunUnder guard scenario ran
         → IsRunUnder guard scenario other → ran ≡ other }
 {}
 
-/// What was run is a valid scenario, also if a guard has added its traps. So what holds of every run of a valid
+/// The scenario that was run is valid, even if a guard has added its traps. So what holds of every run of a valid
 /// scenario holds of the runs of a campaign.
 pub fn a_run_under_is_a_run_of_a_valid_scenario()
     ensures { (guard : Bool) (scenario : Scenario) (ran : Ran) → CanRunUnder guard scenario

@@ -1,4 +1,4 @@
--- What is there if it is asked for.
+-- Details that are present only if the campaign asks for them.
 use Rattle.std.proofs.Common.{◌≡◌, refl, ℕ, Bool, true, false}
 use Rattle.std.specs.Bool.{then_some}
 use Rattle.campaign_defs.specs.Rows.{if_asked}

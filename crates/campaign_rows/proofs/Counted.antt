@@ -5,12 +5,12 @@ use Rattle.std.proofs.lemmas.List.Sums.{sum_by-append}
 use Rattle.campaign_defs.specs.TableText.{counts_of, traps_count, traps_in}
 use Rattle.campaign_defs.specs.Types.{Row}
 use Rattle.campaign_rows.specs.Counting.{with_row}
-use Rattle.campaign_rows.specs.Tallies.{tally_of}
+use Rattle.campaign_rows.specs.CampaignCounts.{campaign_counts_of}
 use Rattle.nook_data.specs.Types.{MemberRow}
 use Rattle.promise_defs.specs.Losses.{one_if}
 use Rattle.report_defs.specs.Campaigns.{status_count}
 
--- rows so far, one more of them, and those that were counted before
+-- rows counted earlier, rows so far, and one more of them
 pub one_more : (done rows : List Row) (i : ℕ) (row : Row) → i < length rows
     → (done ++ take i rows) ++ get_or rows i row ∷ [] ≡ done ++ take (i + 1) rows
 one_more done rows i row h =
@@ -40,7 +40,7 @@ traps_more (first ∷ done) row =
     ap (λ n. traps_in first.traps + n) (traps_more done row)
     ∙ sym (add_assoc (traps_in first.traps) (traps_count done) (traps_in row.traps))
 
-pub row_more : (done : List Row) (row : Row) → with_row row (tally_of done) ≡ tally_of (done ++ row ∷ [])
+pub row_more : (done : List Row) (row : Row) → with_row row (campaign_counts_of done) ≡ campaign_counts_of (done ++ row ∷ [])
 unfolding with_row
 row_more done row = rw (
   length_push done row,

@@ -1,5 +1,4 @@
 pub mod Asked
 pub mod Counted
 pub mod Detailed
-pub mod Rows
 pub mod Showing

@@ -11,10 +11,10 @@ use Rattle.nook_data.specs.declared.steps.Event.{Event}
 use Rattle.part_defs.specs.Runs.{state_of}
 use Rattle.promise_defs.specs.Losses.{losses}
 use Rattle.report_text.proofs.WholeLemmas.{left_same}
-use Rattle.report_text.specs.Whole.{HaveEnds, summaries}
-use Rattle.report_text.specs.declared.whole_report.PartEnd.{PartEnd}
-use Rattle.report_text.specs.declared.whole_report.Report.{Report}
-use Rattle.run_ends.specs.Journals.{events_in}
+use Rattle.run_results.specs.Reports.{HaveEnds, summaries}
+use Rattle.run_results.specs.declared.report.PartEnd.{PartEnd}
+use Rattle.run_results.specs.declared.report.Report.{Report}
+use Rattle.run_results.specs.Journals.{events_in}
 
 left_is : (specs : List PartSpec) (journals : List (Kept Event)) (ends : List PartEnd) → HaveEnds specs journals ends
     → left_parts specs journals (summaries specs journals ends) ends ≡ left_texts specs (map events_in journals)

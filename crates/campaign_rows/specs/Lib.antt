@@ -1,5 +1,4 @@
 pub mod Counting
 pub mod Reported
 pub mod Shown
-pub mod Sums
-pub mod Tallies
+pub mod CampaignCounts

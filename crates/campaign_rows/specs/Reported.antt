@@ -2,10 +2,10 @@ use Rattle.std.specs.Prelude.{ℕ, List, [], ◌∷◌, Option, Some, None, opti
 use Rattle.nook_data.specs.Types.{Event, PartSpec}
 use Rattle.nook_data.specs.Views.Room.{Kept}
 use Rattle.report_text.specs.Whole.{left_rows}
-use Rattle.report_text.specs.declared.whole_report.PartEnd.{PartEnd}
-use Rattle.report_text.specs.declared.whole_report.PartReport.{PartReport}
+use Rattle.run_results.specs.declared.report.PartEnd.{PartEnd}
+use Rattle.run_results.specs.declared.report.PartReport.{PartReport}
 
--- what each part is left with, by the rows of a report
+-- the final state of each part, by the rows of a report
 abbrev pub left_parts : List PartSpec → List (Kept Event) → List PartReport → List PartEnd → List (List ℕ)
 left_parts [] journals parts ends = []
 left_parts (spec ∷ specs) [] parts ends = []
@@ -14,7 +14,7 @@ left_parts (spec ∷ specs) (journal ∷ journals) (part ∷ parts) [] = []
 left_parts (spec ∷ specs) (journal ∷ journals) (part ∷ parts) (end ∷ ends) =
     left_rows spec.class journal.list part.losses end ∷ left_parts specs journals parts ends
 
--- the number of the clause that a part broke first, where the part is there
+-- the number of the clause that a part broke first, if the part exists
 abbrev pub clause_in : Option PartReport → Option ℕ
 clause_in (Some part) = option_map (λ b. b.clause) part.first_break
 clause_in None = None

@@ -5,7 +5,7 @@ ghost use Rattle.campaign_defs.specs.Members.{Ran};
 ghost use Rattle.campaign_defs.specs.Rows.{cause_at, cause_of, detail_of, first_cause, texts_eq};
 ghost use Rattle.campaign_rows.specs.Reported.{clause_in};
 ghost use Rattle.campaign_rows.specs.Shown.{IsShown, Shows};
-ghost use Rattle.run_ends.specs.Journals.{events_in};
+ghost use Rattle.run_results.specs.Journals.{events_in};
 
 use crate::shown::{Shown, shown_of};
 use campaign_defs::row::Detail;
@@ -14,20 +14,20 @@ use nook_data::lists::Words8;
 use nook_data::memory::NoMemory;
 use nook_data::scenario::Scenario;
 use nook_data::steps::{Event, FailCause};
-use report_text::{PartReport, Report};
+use run_results::{PartReport, Report};
 use std::alloc::Global;
 
-/// How the run of a report compares with the base's run, which showed and left `base`, and what the part at a place,
-/// counted from 0, did in it.
+/// How the run of a report compares with the base's run, whose answers and final states are `base`, and what part
+/// `index`, counted from 0, did in it.
 pub fn detail_of(
     alloc: Global,
-    place: usize,
+    index: usize,
     base: &Shown,
     scenario: &Scenario,
     report: &Report,
 ) -> Result<Detail, NoMemory>
     ensures { (own ran : Ran) → IsShown own base.now → Shows ran scenario.now report.now
-        → IfOk result (λ detail. detail ≡ detail_of place own ran) }
+        → IfOk result (λ detail. detail ≡ detail_of index own ran) }
 {
     let shown = shown_of(alloc, scenario, report)?;
     let same_answers = same_texts(base.answers.as_slice(), shown.answers.as_slice());
@@ -35,8 +35,8 @@ pub fn detail_of(
     Ok(Detail {
         same_answers,
         same_left,
-        clause: clause_at(report.parts.as_slice(), place),
-        cause: cause_at(report.run.journals.as_slice(), place),
+        clause: clause_at(report.parts.as_slice(), index),
+        cause: cause_at(report.run.journals.as_slice(), index),
     })
 }
 
@@ -53,19 +53,19 @@ fn same_texts(texts: &[Words8], others: &[Words8]) -> bool
     text.as_slice() == other.as_slice() && same_texts(more_texts, more_others)
 }
 
-/// The number of the first clause that the part at a place broke.
-fn clause_at(parts: &[PartReport], place: usize) -> Option<u8>
-    ensures { result ≡ clause_in (slice_get parts.now place) }
+/// The number of the first clause that part `index` broke.
+fn clause_at(parts: &[PartReport], index: usize) -> Option<u8>
+    ensures { result ≡ clause_in (slice_get parts.now index) }
 {
-    let broken = parts.get(place)?.first_break?;
+    let broken = parts.get(index)?.first_break?;
     Some(broken.clause)
 }
 
-/// Why the part of the journal at a place failed first.
-fn cause_at(journals: &[Journal], place: usize) -> Option<FailCause>
-    ensures { result ≡ cause_at (slice_get (map events_in journals.now) place) }
+/// Why the part with journal `index` failed first.
+fn cause_at(journals: &[Journal], index: usize) -> Option<FailCause>
+    ensures { result ≡ cause_at (slice_get (map events_in journals.now) index) }
 {
-    first_cause(journals.get(place)?.as_slice())
+    first_cause(journals.get(index)?.as_slice())
 }
 
 /// Why the first failing event failed.

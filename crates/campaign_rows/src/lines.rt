@@ -3,6 +3,7 @@
 ghost use Rattle.std.specs.Prelude.{◌≡◌, ◌+◌, ◌^◌, ◌<◌, ◌++◌, OnOk, length};
 ghost use Rattle.campaign_defs.specs.TableText.{cause_words, clause_text, counts_text, detail_text, first_cause_text};
 ghost use Rattle.campaign_defs.specs.TableText.{plan_row_line, plan_row_lines, same_text, traps_text};
+ghost use Rattle.nook_io.specs.Changes.{change};
 ghost use Rattle.report_text.specs.Writing.{Wrote};
 
 use campaign_defs::row::{Detail, Row};
@@ -13,7 +14,7 @@ use nook_io::outside::Sink;
 use report_text::{Line, WriteStop, push_cause, push_number, write_text};
 use std::alloc::Global;
 
-/// Writes the lines of rows, the first of them number `first`.
+/// Writes the lines of rows; the first row has number `first`.
 pub fn write_rows<K: Sink>(
     alloc: Global,
     sink: &mut K,
@@ -21,7 +22,7 @@ pub fn write_rows<K: Sink>(
     rows: &[Row],
 ) -> Result<(), WriteStop>
     requires { first + length rows.now < 2 ^ 64 }
-    ensures { Wrote (K.held sink.old) (K.held sink.new) (K.count sink.old) (K.count sink.new) result
+    ensures { Wrote (change K.held K.count sink.old sink.new) result
         (plan_row_lines first rows.now) }
 {
     let mut line = Line::new(alloc);
@@ -29,34 +30,33 @@ pub fn write_rows<K: Sink>(
     write_text(sink, &line)
 }
 
-/// Writes the line of the base's row, number 0.
+/// Writes the line of the base's row, which has number 0.
 pub fn write_base_row<K: Sink>(alloc: Global, sink: &mut K, row: &Row) -> Result<(), WriteStop>
-    ensures { Wrote (K.held sink.old) (K.held sink.new) (K.count sink.old) (K.count sink.new) result
-        (plan_row_line 0 row.now) }
+    ensures { Wrote (change K.held K.count sink.old sink.new) result (plan_row_line 0 row.now) }
 {
     let mut line = Line::new(alloc);
     push_row(&mut line, 0, row)?;
     write_text(sink, &line)
 }
 
-/// Adds the lines of rows, the first of them number `first`.
+/// Appends the lines of rows; the first row has number `first`.
 fn push_rows(line: &mut Line, first: u64, rows: &[Row]) -> Result<(), NoMemory>
     requires { first + length rows.now < 2 ^ 64 }
     ensures { OnOk result (line.new ≡ line.old ++ plan_row_lines first rows.now) }
 {
-    let mut place = first;
+    let mut position = first;
     for row in rows {
-        push_row(line, place, row)?;
-        place += 1;
+        push_row(line, position, row)?;
+        position += 1;
     }
     Ok(())
 }
 
-/// Adds the line of a row with its number.
-fn push_row(line: &mut Line, place: u64, row: &Row) -> Result<(), NoMemory>
-    ensures { OnOk result (line.new ≡ line.old ++ plan_row_line place row.now) }
+/// Appends the line of a row with its number.
+fn push_row(line: &mut Line, position: u64, row: &Row) -> Result<(), NoMemory>
+    ensures { OnOk result (line.new ≡ line.old ++ plan_row_line position row.now) }
 {
-    line.number(place)?;
+    line.number(position)?;
     push_counts(line, &row.counts)?;
     push_detail(line, row.detail)?;
     push_traps(line, row.traps)?;
@@ -64,7 +64,7 @@ fn push_row(line: &mut Line, place: u64, row: &Row) -> Result<(), NoMemory>
     line.push("\n")
 }
 
-/// Adds what is counted of a run.
+/// Appends the counts of a run.
 fn push_counts(line: &mut Line, row: &MemberRow) -> Result<(), NoMemory>
     ensures { OnOk result (line.new ≡ line.old ++ counts_text row.now) }
 {
@@ -75,7 +75,7 @@ fn push_counts(line: &mut Line, row: &MemberRow) -> Result<(), NoMemory>
     push_number(line, " lost ", row.lost)
 }
 
-/// Adds how a run compares with the base's, and the clause that was broken, if the campaign asks for it.
+/// Appends how a run compares with the base's, and the clause that was broken, if the campaign asks for it.
 fn push_detail(line: &mut Line, detail: Option<Detail>) -> Result<(), NoMemory>
     ensures { OnOk result (line.new ≡ line.old ++ detail_text detail) }
 {
@@ -90,14 +90,14 @@ fn push_detail(line: &mut Line, detail: Option<Detail>) -> Result<(), NoMemory>
     push_clause(line, detail.clause)
 }
 
-/// Whether something is as in the base's run.
+/// Whether something is the same as in the base's run.
 fn same_text(same: bool) -> &'static str
     ensures { result.now ≡ same_text same }
 {
     if same { "same" } else { "other" }
 }
 
-/// Adds the number of the first clause that was broken.
+/// Appends the number of the first clause that was broken.
 fn push_clause(line: &mut Line, clause: Option<u8>) -> Result<(), NoMemory>
     ensures { OnOk result (line.new ≡ line.old ++ clause_text clause) }
 {
@@ -107,7 +107,7 @@ fn push_clause(line: &mut Line, clause: Option<u8>) -> Result<(), NoMemory>
     }
 }
 
-/// Adds the number of the guard's traps, if the campaign is guarded.
+/// Appends the number of the guard's traps, if the campaign is guarded.
 pub fn push_traps(line: &mut Line, traps: Option<u64>) -> Result<(), NoMemory>
     ensures { OnOk result (line.new ≡ line.old ++ traps_text traps) }
 {
@@ -117,7 +117,7 @@ pub fn push_traps(line: &mut Line, traps: Option<u64>) -> Result<(), NoMemory>
     }
 }
 
-/// Adds why the struck part failed first, if the campaign asks for it.
+/// Appends why the struck part failed first, if the campaign asks for it.
 fn push_cause_words(line: &mut Line, detail: Option<Detail>) -> Result<(), NoMemory>
     ensures { OnOk result (line.new ≡ line.old ++ cause_words detail) }
 {
@@ -128,7 +128,7 @@ fn push_cause_words(line: &mut Line, detail: Option<Detail>) -> Result<(), NoMem
     push_first_cause(line, detail.cause)
 }
 
-/// Adds why a part failed first.
+/// Appends why a part failed first.
 fn push_first_cause(line: &mut Line, cause: Option<FailCause>) -> Result<(), NoMemory>
     ensures { OnOk result (line.new ≡ line.old ++ first_cause_text cause) }
 {

@@ -6,16 +6,15 @@ ghost use Rattle.campaign_defs.specs.Rows.{detail_of, if_asked, plan_row};
 ghost use Rattle.campaign_rows.specs.Shown.{IsShown, Shows};
 
 use crate::detail::detail_of;
-use crate::row::row_of;
 use crate::shown::Shown;
 use campaign_defs::row::{Detail, Row};
 use nook_data::memory::NoMemory;
 use nook_data::scenario::Scenario;
 use plan_defs::plan::Plan;
-use report_text::Report;
+use run_results::{Report, row_of};
 use std::alloc::Global;
 
-/// The row of the run of a report. The base's run showed and left `base`; the guard set so many `traps`.
+/// The row of a report's run. `base` has the answers and final states of the base's run; the guard set `traps` traps.
 pub fn plan_row(
     alloc: Global,
     plan: &Plan,
@@ -24,7 +23,8 @@ pub fn plan_row(
     report: &Report,
     traps: u64,
 ) -> Result<Row, NoMemory>
-    ensures { (own ran : Ran) → IsShown own base.now → Shows ran scenario.now report.now → traps ≡ ran.traps
+    ensures { (own ran : Ran) → IsShown own base.now → Shows ran scenario.now report.now
+        → traps ≡ ran.traps
         → IfOk result (λ row. row ≡ plan_row plan.now own ran) }
 {
     let counts = row_of(report)?;
@@ -45,7 +45,8 @@ fn detail_asked(
     report: &Report,
 ) -> Result<Option<Detail>, NoMemory>
     ensures { (own ran : Ran) → IsShown own base.now → Shows ran scenario.now report.now
-        → IfOk result (λ detail. detail ≡ if_asked plan.now.detail (detail_of plan.now.part own ran)) }
+        → IfOk result (λ detail. detail ≡ if_asked plan.now.detail
+        (detail_of plan.now.part own ran)) }
 {
     if !plan.detail {
         return Ok(None);

@@ -1,4 +1,4 @@
-//! What a run showed its threads and left its parts with, as text.
+//! The answers of a run's threads and the final states of its parts, as text.
 
 ghost use Rattle.std.specs.Prelude.{◌≡◌, ◌++◌, IfOk, OnOk};
 ghost use Rattle.campaign_defs.specs.Members.{Ran};
@@ -13,19 +13,20 @@ use nook_data::journal::Journal;
 use nook_data::lists::{Items, Words8};
 use nook_data::memory::NoMemory;
 use nook_data::scenario::{PartSpec, Scenario};
-use report_text::{Line, PartEnd, PartReport, Report, push_answers, push_left};
+use report_text::{Line, push_answers, push_left};
+use run_results::{PartEnd, PartReport, Report};
 use std::alloc::Global;
 
-/// What a run showed its threads and left its parts with, as text: what a member's run is compared with.
+/// The answers of a run's threads and the final states of its parts, as text. A member's run is compared with them.
 #[derive(Drop)]
 pub struct Shown {
     /// The answers of each thread.
     pub answers: Items<Words8>,
-    /// What each part was left with.
+    /// The final state of each part.
     pub left: Items<Words8>,
 }
 
-/// What the run of a report showed and left.
+/// The answers and final states of a report's run.
 pub fn shown_of(alloc: Global, scenario: &Scenario, report: &Report) -> Result<Shown, NoMemory>
     ensures { (ran : Ran) → Shows ran scenario.now report.now → IfOk result (IsShown ran) }
 {
@@ -62,7 +63,7 @@ fn answer_text(alloc: Global, answers: &[(u32, Answer)]) -> Result<Words8, NoMem
     Ok(line.into_words())
 }
 
-/// Adds what each part was left with.
+/// Appends the final state of each part.
 fn push_parts(
     alloc: Global,
     specs: &[PartSpec],
@@ -71,7 +72,8 @@ fn push_parts(
     ends: &[PartEnd],
     texts: &mut Items<Words8>,
 ) -> Result<(), NoMemory>
-    ensures { OnOk result (texts.new ≡ texts.old ++ left_parts specs.now journals.now parts.now ends.now) }
+    ensures { OnOk result
+        (texts.new ≡ texts.old ++ left_parts specs.now journals.now parts.now ends.now) }
 {
     let Some((spec, more_specs)) = specs.split_first() else {
         return Ok(());
@@ -96,7 +98,7 @@ fn push_parts(
     )
 }
 
-/// What a part was left with.
+/// The final state of a part.
 fn left_text(
     alloc: Global,
     spec: &PartSpec,
@@ -104,7 +106,8 @@ fn left_text(
     part: &PartReport,
     end: &PartEnd,
 ) -> Result<Words8, NoMemory>
-    ensures { IfOk result (λ text. text ≡ left_rows spec.now.class journal.now.list part.now.losses end.now) }
+    ensures { IfOk result
+        (λ text. text ≡ left_rows spec.now.class journal.now.list part.now.losses end.now) }
 {
     let mut line = Line::new(alloc);
     push_left(&mut line, spec.class, journal.as_slice(), &part.losses, end)?;

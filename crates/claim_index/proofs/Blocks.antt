@@ -1,4 +1,4 @@
--- One block's calls change.
+-- What changes if the calls of one block change.
 use Rattle.std.proofs.Common.{◌≡◌, ℕ, ◌==◌, ◌<◌, ◌≤◌, ◌+◌, ◌&&◌, nat_le, nat_lt, Bool, true, false, cond, Option, Some, None, List, refl, sym, ap, ◌∙◌, inl, inr, arith, if◌then◌else◌}
 use Rattle.std.specs.Prelude.{Vec, IsSome}
 use Rattle.std.specs.BTreeMap.{BTreeMap, UpdatesBy, get, is_at}

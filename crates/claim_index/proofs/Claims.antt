@@ -7,7 +7,7 @@ use Rattle.claim_index.specs.declared.claim.Claimed.{Claimed}
 use Rattle.claim_index.specs.Claims.{AreBelow, AreRising, HasBlocks, HaveBlocks, claim_by, is_claim, without_call}
 use Rattle.claim_index.specs.Indexed.{calls_that}
 
--- one claim more
+-- one more claim
 
 pub calls_push : (p : Claimed → Bool) (xs : List Claim) (k : Claim) → calls_that p (xs ++ k ∷ []) ≡ cond (p k.on) (calls_that p xs ++ k.call ∷ []) (calls_that p xs)
 calls_push p [] k = elim (cases_Bool (p k.on)) [
@@ -50,11 +50,11 @@ without_lower low call [] r l = refl
 without_lower low call (x ∷ xs) r l =
     rw (ne_eqb x.call call (λ e. omega (arith, e, l, r.0)), without_lower x.call call xs r.1 (omega (arith, l, r.0))) refl
 
--- a claim that fails a test leaves the calls that pass it
-pub calls_beside : (p : Claimed → Bool) (low : ℕ) (xs : List Claim) (k : Claim) → AreRising low xs → claim_by k.call xs ≡ Some k → p k.on ≡ false
+-- removing a claim that fails a test leaves the calls that pass it
+pub calls_outside : (p : Claimed → Bool) (low : ℕ) (xs : List Claim) (k : Claim) → AreRising low xs → claim_by k.call xs ≡ Some k → p k.on ≡ false
     → calls_that p (without_call k.call xs) ≡ calls_that p xs
-calls_beside p low [] k r f n = refl
-calls_beside p low (x ∷ xs) k r f n = elim (cases_Bool (is_claim k.call x)) [
+calls_outside p low [] k r f n = refl
+calls_outside p low (x ∷ xs) k r f n = elim (cases_Bool (is_claim k.call x)) [
   | inl t ↦
       let s : Some x ≡ Some k = rw (← f) (rw t refl) in
       let e : x ≡ k = cc in
@@ -64,8 +64,8 @@ calls_beside p low (x ∷ xs) k r f n = elim (cases_Bool (is_claim k.call x)) [
   | inr t ↦
       let s : claim_by k.call xs ≡ Some k = rw (← f) (rw t refl) in
       elim (cases_Bool (p x.on)) [
-        | inl q ↦ rw t (rw q (ap (λ z. x.call ∷ z) (calls_beside p x.call xs k r.1 s n)))
-        | inr q ↦ rw t (rw q (calls_beside p x.call xs k r.1 s n))
+        | inl q ↦ rw t (rw q (ap (λ z. x.call ∷ z) (calls_outside p x.call xs k r.1 s n)))
+        | inr q ↦ rw t (rw q (calls_outside p x.call xs k r.1 s n))
       ]
 ]
 

@@ -1,4 +1,4 @@
--- Claims conflict where their operations do.
+-- Claims conflict if their operations do.
 use Rattle.std.proofs.Common.{◌≡◌, ℕ, ◌+◌, ◌<◌, ◌≤◌, ◌==◌, ◌&&◌, ◌||◌, nat_lt, Bool, true, false, Option, Some, None, List, [], ◌∷◌, map, refl, sym, ap, ◌∙◌, inl, inr, arith}
 use Rattle.std.specs.List.{find}
 use Rattle.std.specs.Option.{option_map}
@@ -43,7 +43,7 @@ conflict_is class.Block a b = rw ((agrees a).all, (agrees b).all, (agrees a).wri
 conflict_is class.Net a b = rw ((agrees a).all, (agrees b).all, (agrees a).frames, (agrees b).frames) refl
 conflict_is class.Sound a b = rw ((agrees a).all, (agrees b).all, (agrees a).stream, (agrees b).stream) refl
 
--- what blocks a call blocks its claim
+-- a call is blocked by the call whose claim blocks its claim
 
 find_blocking : (cl : Class) (c : CallEntry) (xs : List CallEntry)
     → option_map (λ k. k.call) (find (blocks_claim cl (claim_of c)) (claims_of xs)) ≡ option_map (λ e. e.call) (find (blocks_call cl c) xs)
@@ -78,7 +78,7 @@ blocking_before cl call xs k first found r f e n =
     let same : k.call ≡ call = claim_call call xs k (sym f) in
     rw (← f) (rw same (n ∙ ap (λ z. number_before call z) e ∙ first_before (conflict cl k.on) 0 call xs r))
 
--- a call that came first waits for none
+-- a call that came first waits for no other
 pub oldest_waits_for_none : (cl : Class) (call : ℕ) (xs : List Claim) → AreRising 0 xs → is_oldest call xs ≡ true
     → None ≡ first_blocking cl (claim_by call xs) xs
 oldest_waits_for_none cl call [] r t = absurd (cc)

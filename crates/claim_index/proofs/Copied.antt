@@ -3,7 +3,7 @@ use Rattle.std.proofs.Common.{ℕ, zero, suc, ◌<◌, List, [], ◌∷◌, take
 use Rattle.claim_index.specs.declared.claim.Claim.{Claim}
 use Rattle.claim_index.specs.Claims.{AreBelow, AreRising, HasBlocks, HaveBlocks}
 
--- each claim is above those before it
+-- each claim's number is above those before it
 pub above_earlier : (low i : ℕ) (xs : List Claim) (d : Claim) → AreRising low xs → i < length xs
     → (low < (slice_index_or xs i d).call) × AreBelow (slice_index_or xs i d).call (take i xs)
 above_earlier low i [] d r l = absurd (omega (arith, l))

@@ -37,7 +37,7 @@ least_right n (Some m) h = rw (lt-ltb n m (h m refl)) refl
 least_same : (n : ℕ) → least (Some n) (Some n) ≡ Some n
 least_same n = rw (le-ltb n n (omega arith)) refl
 
--- of two tests
+-- the first that passes one of two tests
 pub first_either : (p q : Claimed → Bool) (low : ℕ) (xs : List Claim) → AreRising low xs
     → least (first_that p xs) (first_that q xs) ≡ first_that (λ o. p o || q o) xs
 first_either p q low [] r = refl
@@ -52,7 +52,7 @@ first_either p q low (x ∷ xs) r = elim (cases_Bool (p x.on)) [
   ]
 ]
 
--- the first of those before a call
+-- the first among those before a call
 pub none_before : (p : Claimed → Bool) (low n : ℕ) (xs : List Claim) → AreRising low xs → n ≤ low
     → option_map (λ k. k.call) (find (λ k. nat_lt k.call n && p k.on) xs) ≡ None
 none_before p low n [] r l = refl
@@ -81,7 +81,7 @@ first_same p q (x ∷ xs) h e = elim (cases_Bool (q x.on)) [
   | inr t ↦ let s : p x.on ≡ false = e x.on h.0 ∙ t in rw (t, s) (first_same p q xs h.1 e)
 ]
 
--- one block more
+-- one more block
 
 none_of : (a b : Bool) → ((a && false) || (b && false)) ≡ false
 none_of true true = refl
@@ -126,7 +126,7 @@ range_more first i f e l b = elim (cases_lt first e) [
     | inr near ↦ rw (lt-ltb first e t, le-leb f i near, lt-ltb f (i + 1) (omega (arith, near)), lt-ltb first (i + 1) (omega (arith, l)))
         (elim (cases_lt i e) [
           | inl inside ↦ rw (lt-ltb i e inside) (either_true (nat_lt first i && nat_lt f i))
-          | inr behind ↦ rw (lt-ltb first i (omega (arith, t, behind)), lt-ltb f i (omega (arith, b, behind))) refl
+          | inr rest_after ↦ rw (lt-ltb first i (omega (arith, t, rest_after)), lt-ltb f i (omega (arith, b, rest_after))) refl
         ])
   ]
 ]
@@ -186,7 +186,7 @@ pub reads_clash : (first end : ℕ) (xs : List Claim) (found : Option ℕ) → f
 reads_clash first end xs found l h e =
     e ∙ first_same (λ o. is_writing o && is_touched first end o) (clashes class.Block (claimed.Reads first end)) xs h (λ o b. rw (lt-ltb first end l) refl)
 
--- with those that claim everything
+-- together with those that claim everything
 pub all_or_clash : (cl : Class) (on : Claimed) (xs : List Claim) (one other found : Option ℕ) → takes_all on ≡ false → AreRising 0 xs → HaveBlocks xs
     → one ≡ first_that takes_all xs → other ≡ first_that (clashes cl on) xs → found ≡ least one other → found ≡ first_that (conflict cl on) xs
 all_or_clash cl on xs one other found n r h e f k =
@@ -201,7 +201,7 @@ pub none_that : (p : Claimed → Bool) (xs : List Claim) → HaveBlocks xs → (
 none_that p [] h e = refl
 none_that p (x ∷ xs) h e = rw (e x.on h.0) (none_that p xs h.1 e)
 
--- every claim
+-- a test that every claim passes
 pub all_that : (p : Claimed → Bool) (xs : List Claim) → ((o : Claimed) → p o ≡ true) → option_map (λ k. k.call) (slice_get xs 0) ≡ first_that p xs
 all_that p [] e = refl
 all_that p (x ∷ xs) e = rw (e x.on) refl

@@ -1,4 +1,4 @@
--- What the claims of a call leave when they end.
+-- What remains when the claims of a call end.
 use Rattle.std.proofs.Common.{◌≡◌, ℕ, ◌==◌, ◌&&◌, Bool, true, false, not, Some, List, filter, refl, sym, ap, ◌∙◌, inl, inr, if◌then◌else◌}
 use Rattle.std.proofs.lemmas.Bool.{cases_Bool}
 use Rattle.claim_index.specs.declared.by_block.ByBlock.{ByBlock}
@@ -6,11 +6,11 @@ use Rattle.claim_index.specs.declared.claim.Claim.{Claim}
 use Rattle.claim_index.specs.declared.claim.Claimed.{Claimed}
 use Rattle.claim_index.specs.Claims.{AreRising, claim_by, end_claimed, first_claimed, without_call}
 use Rattle.claim_index.specs.Indexed.{AreByBlock, calls_that, is_claimed, is_within, numbers_at}
-use Rattle.claim_index.proofs.Claims.{calls_beside, calls_without}
+use Rattle.claim_index.proofs.Claims.{calls_outside, calls_without}
 
 pub list_kept : (p : Claimed → Bool) (xs : List Claim) (k : Claim) (old : List ℕ) → AreRising 0 xs → claim_by k.call xs ≡ Some k → p k.on ≡ false
     → old ≡ calls_that p xs → old ≡ calls_that p (without_call k.call xs)
-list_kept p xs k old r f n e = e ∙ sym (calls_beside p 0 xs k r f n)
+list_kept p xs k old r f n e = e ∙ sym (calls_outside p 0 xs k r f n)
 
 pub list_less : (p : Claimed → Bool) (xs : List Claim) (call : ℕ) (old new : List ℕ) → old ≡ calls_that p xs → new ≡ filter (λ n. not (n == call)) old
     → new ≡ calls_that p (without_call call xs)

@@ -63,7 +63,7 @@ end_claimed (claimed.Reads first end) = end
 end_claimed (claimed.Writes first end) = end
 end_claimed _ = 0
 
--- a claim of blocks is one of some
+-- a claim of blocks claims at least one
 abbrev pub HasBlocks : Claimed → Type 0
 HasBlocks (claimed.Reads first end) = first < end
 HasBlocks (claimed.Writes first end) = first < end
@@ -72,7 +72,7 @@ HasBlocks _ = Unit {0}
 abbrev pub meets : Claimed → Claimed → Bool
 meets a b = nat_lt (first_claimed a) (end_claimed b) && nat_lt (first_claimed b) (end_claimed a)
 
--- two claims on a part of the class, neither of them of everything
+-- whether two claims on a part of the class conflict, neither of them of everything
 abbrev pub clashes : Class → Claimed → Claimed → Bool
 clashes class.Block a b = (is_writing a || is_writing b) && meets a b
 clashes class.Net a b = takes_frames a && takes_frames b
@@ -92,7 +92,7 @@ claim_by call claims = find (is_claim call) claims
 abbrev pub without_call : ℕ → List Claim → List Claim
 without_call call claims = filter (λ k. not (is_claim call k)) claims
 
--- the numbers rise, from above the first number on
+-- the numbers rise, and all are above the given number
 abbrev pub AreRising : ℕ → List Claim → Type 0
 AreRising low [] = Unit {0}
 AreRising low (k ∷ claims) = (low < k.call) × AreRising k.call claims
@@ -102,7 +102,7 @@ abbrev pub is_oldest : ℕ → List Claim → Bool
 is_oldest call [] = false
 is_oldest call (k ∷ claims) = is_claim call k
 
--- every number is below a number
+-- every number is below the given one
 abbrev pub AreBelow : ℕ → List Claim → Type 0
 AreBelow call [] = Unit {0}
 AreBelow call (k ∷ claims) = (k.call < call) × AreBelow call claims
@@ -111,7 +111,7 @@ abbrev pub HaveBlocks : List Claim → Type 0
 HaveBlocks [] = Unit {0}
 HaveBlocks (k ∷ claims) = HasBlocks k.on × HaveBlocks claims
 
--- the claim of an earlier call that conflicts with a claim
+-- whether a claim is that of an earlier call and conflicts with the given claim
 abbrev pub blocks_claim : Class → Claim → Claim → Bool
 blocks_claim class k earlier = nat_lt earlier.call k.call && conflict class k.on earlier.on
 
@@ -119,7 +119,7 @@ blocks_claim class k earlier = nat_lt earlier.call k.call && conflict class k.on
 abbrev pub first_that : (Claimed → Bool) → List Claim → Option ℕ
 first_that test claims = option_map (λ k. k.call) (find (λ k. test k.on) claims)
 
--- the number of the first call that blocks a claim; none where there is no such claim
+-- the number of the first call that blocks a claim; none if no call does
 abbrev pub first_blocking : Class → Option Claim → List Claim → Option ℕ
 first_blocking class None claims = None
 first_blocking class (Some k) claims = option_map (λ earlier. earlier.call) (find (blocks_claim class k) claims)

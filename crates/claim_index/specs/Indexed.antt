@@ -23,7 +23,7 @@ abbrev pub has_room : {A : Type 0} → Option (Vec ℕ A) → Type 0
 has_room None = ⊥
 has_room (Some numbers) = vec_len numbers < vec_capacity numbers
 
--- a block has room for one number more
+-- a block has room for one more number
 abbrev pub HasRoomAt : ℕ → ByBlock → Type 0
 HasRoomAt block b = has_room (get nat_cmp b.numbers block)
 
@@ -33,7 +33,7 @@ is_within first end block = nat_le first block && nat_lt block end
 abbrev pub is_claimed : ℕ → Claimed → Bool
 is_claimed block o = is_within (first_claimed o) (end_claimed o) block
 
--- a claim has one of some blocks
+-- whether a claim contains one of some blocks
 abbrev pub is_touched : ℕ → ℕ → Claimed → Bool
 is_touched first end o = nat_lt first end && (nat_lt first (end_claimed o) && nat_lt (first_claimed o) end)
 
@@ -41,7 +41,7 @@ is_touched first end o = nat_lt first end && (nat_lt first (end_claimed o) && na
 abbrev pub calls_that : (Claimed → Bool) → List Claim → List ℕ
 calls_that test claims = map (λ k. k.call) (filter (λ k. test k.on) claims)
 
--- of each block, the calls of a kind that claim it
+-- for each block, the calls of a kind that claim it
 pub record AreByBlock (kind : Claimed → Bool) (claims : List Claim) (b : ByBlock) : Type 0 where
   pub at : (block : ℕ) → numbers_at block b ≡ calls_that (λ o. kind o && is_claimed block o) claims
 
@@ -53,13 +53,13 @@ pub record AreClaimantsOf (claims : List Claim) (c : Claimants) : Type 0 where
   pub frames : c.frames.items ≡ calls_that takes_frames claims
   pub stream : c.stream.items ≡ calls_that takes_stream claims
 
--- the smaller of two numbers, where there are some
+-- the smaller of two numbers, if there are any
 abbrev pub least : Option ℕ → Option ℕ → Option ℕ
 least None b = b
 least (Some a) None = Some a
 least (Some a) (Some b) = Some (if nat_lt b a then b else a)
 
--- a number, where it is below another
+-- a number, if it is below another
 abbrev pub number_before : ℕ → Option ℕ → Option ℕ
 number_before call None = None
 number_before call (Some n) = if nat_lt n call then Some n else None

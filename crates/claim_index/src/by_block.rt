@@ -9,8 +9,8 @@ use nook_data::memory::NoMemory;
 use std::alloc::Global;
 use std::collections::BTreeMap;
 
-/// Of each block the numbers of the calls that claim it, in the order in which they came. A block that is claimed no
-/// more keeps its empty list.
+/// For each block the numbers of the calls that claim it, in the order in which they came. A block that is no longer
+/// claimed keeps its empty list.
 #[derive(Drop)]
 pub struct ByBlock {
     numbers: BTreeMap<u64, Vec<u32>>,
@@ -26,23 +26,25 @@ impl ByBlock {
         }
     }
 
-    /// The call is added at each block. It takes its memory first: after `NoMemory` each block has the calls that it
+    /// Adds the call at each block. It allocates its memory first: after `NoMemory` each block has the calls that it
     /// had.
     pub fn add(&mut self, alloc: Global, first: u64, end: u64, call: u32) -> Result<(), NoMemory>
         ensures ok { OnOk result ((block : ℕ) → numbers_at block self.new
             ≡ (if is_within first end block then numbers_at block self.old ++ call ∷ []
             else numbers_at block self.old)) }
-        ensures err { OnErr result ((block : ℕ) → numbers_at block self.new ≡ numbers_at block self.old) }
+        ensures err { OnErr result
+            ((block : ℕ) → numbers_at block self.new ≡ numbers_at block self.old) }
     {
         self.make_rooms(alloc, first, end)?;
         self.push(first, end, call);
         Ok(())
     }
 
-    /// The call claims none of the blocks any more. It takes no memory.
+    /// Removes the call from each block. It takes no memory.
     pub fn remove(&mut self, first: u64, end: u64, call: u32)
         ensures { (block : ℕ) → numbers_at block self.new
-            ≡ (if is_within first end block then filter (λ n. not (n == call)) (numbers_at block self.old)
+            ≡ (if is_within first end block then filter (λ n. not (n == call))
+            (numbers_at block self.old)
             else numbers_at block self.old) }
     {
         for block in first..end {
@@ -60,10 +62,11 @@ impl ByBlock {
         }
     }
 
-    /// Each block gets room for one call more.
+    /// Makes room for one more call at each block.
     fn make_rooms(&mut self, alloc: Global, first: u64, end: u64) -> Result<(), NoMemory>
         ensures same { (block : ℕ) → numbers_at block self.new ≡ numbers_at block self.old }
-        ensures room { OnOk result ((block : ℕ) → is_within first end block ≡ true → HasRoomAt block self.new) }
+        ensures room { OnOk result
+            ((block : ℕ) → is_within first end block ≡ true → HasRoomAt block self.new) }
     {
         for block in first..end {
             self.make_room(alloc, block)?;
@@ -81,7 +84,7 @@ impl ByBlock {
         Ok(())
     }
 
-    /// The call is added at each block, which has room for it.
+    /// Adds the call at each block, which has room for it.
     fn push(&mut self, first: u64, end: u64, call: u32)
         requires { (block : ℕ) → is_within first end block ≡ true → HasRoomAt block self.old }
         ensures { (block : ℕ) → numbers_at block self.new
@@ -96,8 +99,10 @@ impl ByBlock {
     fn push_at(&mut self, block: u64, call: u32)
         requires { HasRoomAt block self.old }
         ensures pushed { (other : ℕ) → numbers_at other self.new
-            ≡ (if other == block then numbers_at other self.old ++ call ∷ [] else numbers_at other self.old) }
-        ensures rooms { (other : ℕ) → (other ≡ block → ⊥) → HasRoomAt other self.old → HasRoomAt other self.new }
+            ≡ (if other == block then numbers_at other self.old ++ call
+            ∷ [] else numbers_at other self.old) }
+        ensures rooms { (other : ℕ) → (other ≡ block → ⊥) → HasRoomAt other self.old
+            → HasRoomAt other self.new }
     {
         if let Some(numbers) = self.numbers.get_mut(&block) {
             numbers.push(call).unwrap();

@@ -19,11 +19,11 @@ pub enum Claimed {
     Frames,
     /// The stream, as an Open, a Play and a Close do.
     Stream,
-    /// Nothing: the call waits for those alone that claim everything.
+    /// Nothing: the call waits only for calls that claim everything.
     Nothing,
 }
 
-/// The claim of an open call, by the call's number.
+/// The claim of an open call, with the call's number.
 #[derive(Clone, Copy, Debug, PartialEq, Eq)]
 pub struct Claim {
     pub call: u32,
@@ -31,7 +31,7 @@ pub struct Claim {
 }
 
 impl Claim {
-    /// The claim of a call that asks for the operation.
+    /// The claim of a call that requests the operation.
     pub fn of(call: u32, op: &Op) -> Claim
         ensures call { result.call ≡ call }
         ensures on { result.on ≡ claimed_by op.now }

@@ -36,7 +36,7 @@ impl Claimants {
         }
     }
 
-    /// A claim more, of a call behind the others. It takes its memory first: after `NoMemory` the claims are as before.
+    /// Adds the claim of a call later than the others. It allocates first: after `NoMemory` the claims are unchanged.
     pub fn add(&mut self, alloc: Global, claim: Claim) -> Result<(), NoMemory>
         ensures ok { OnOk result ((claims : List Claim) → AreClaimantsOf claims self.old
             → AreClaimantsOf (claims ++ claim ∷ []) self.new) }
@@ -55,10 +55,11 @@ impl Claimants {
         Ok(())
     }
 
-    /// The claim of an open call ends. It takes no memory.
+    /// Ends the claim of an open call. It takes no memory.
     pub fn remove(&mut self, claim: Claim)
         ensures { (claims : List Claim) → AreClaimantsOf claims self.old → AreRising 0 claims
-            → claim_by claim.call claims ≡ Some claim → AreClaimantsOf (without_call claim.call claims) self.new }
+            → claim_by claim.call claims ≡ Some claim
+            → AreClaimantsOf (without_call claim.call claims) self.new }
     {
         let call = claim.call;
         match claim.on {
@@ -71,21 +72,23 @@ impl Claimants {
         }
     }
 
-    /// The smallest number of an open call that a claim conflicts with in a part of the class. The claim is not of
+    /// The smallest number of an open call that a claim conflicts with, in a part of the class. The claim is not of
     /// everything.
     pub fn first_conflict(&self, class: Class, on: Claimed) -> Option<u32>
         requires all { takes_all on ≡ false }
         requires blocks { HasBlocks on }
-        ensures { (claims : List Claim) → AreClaimantsOf claims self.now → AreRising 0 claims → HaveBlocks claims
+        ensures { (claims : List Claim) → AreClaimantsOf claims self.now → AreRising 0 claims
+            → HaveBlocks claims
             → result ≡ first_that (conflict class on) claims }
     {
         least(first_of(&self.everything), self.first_clash(class, on))
     }
 
-    /// The same but for the claims of everything.
+    /// The same without the claims of everything.
     fn first_clash(&self, class: Class, on: Claimed) -> Option<u32>
         requires { HasBlocks on }
-        ensures { (claims : List Claim) → AreClaimantsOf claims self.now → AreRising 0 claims → HaveBlocks claims
+        ensures { (claims : List Claim) → AreClaimantsOf claims self.now → AreRising 0 claims
+            → HaveBlocks claims
             → result ≡ first_that (clashes class on) claims }
     {
         match (class, on) {
@@ -104,7 +107,8 @@ impl Claimants {
 /// The smallest number of a call of a kind that claims one of the blocks from `first` up to `end`.
 fn first_among(by_block: &ByBlock, first: u64, end: u64) -> Option<u32>
     requires { first ≤ end }
-    ensures { (kind : Claimed → Bool) (claims : List Claim) → AreByBlock kind claims by_block.now → AreRising 0 claims
+    ensures { (kind : Claimed → Bool) (claims : List Claim) → AreByBlock kind claims by_block.now
+        → AreRising 0 claims
         → HaveBlocks claims
         → result ≡ first_that (λ o. kind o && is_touched first end o) claims }
 {
@@ -115,7 +119,7 @@ fn first_among(by_block: &ByBlock, first: u64, end: u64) -> Option<u32>
     found
 }
 
-/// The smaller of two numbers, where there are some.
+/// The smaller of two numbers, if there are any.
 fn least(one: Option<u32>, other: Option<u32>) -> Option<u32>
     ensures { result ≡ least one other }
 {
@@ -125,7 +129,7 @@ fn least(one: Option<u32>, other: Option<u32>) -> Option<u32>
     }
 }
 
-/// A number leaves a list.
+/// Removes a number from a list.
 fn remove_number(numbers: &mut Vec<u32>, call: u32)
     ensures { numbers.new.items ≡ filter (λ n. not (n == call)) numbers.old.items }
 {

@@ -48,8 +48,8 @@ impl ClaimIndex {
         }
     }
 
-    /// The claim of a new call, whose number is above 0 and above that of each other. It takes its memory first: after
-    /// `NoMemory` the claims are as before.
+    /// Adds the claim of a new call, whose number is above 0 and above all others. It allocates its memory first: after
+    /// `NoMemory` the claims are unchanged.
     pub fn add(&mut self, claim: Claim) -> Result<(), NoMemory>
         requires number { 0 < claim.call }
         requires below { AreBelow claim.call self.old }
@@ -63,7 +63,7 @@ impl ClaimIndex {
         Ok(())
     }
 
-    /// The call is open no more: whatever it claimed is free for the others. It takes no memory.
+    /// The call is no longer open: whatever it claimed is free for the others. It takes no memory.
     pub fn remove(&mut self, call: u32)
         ensures { self.new ≡ without_call call self.old }
     {
@@ -73,14 +73,14 @@ impl ClaimIndex {
         }
     }
 
-    /// The open call with the smallest number that the open call has to wait for in a part of the class: it came
-    /// earlier, and their claims conflict. None exactly where there is none, or the call is not open.
+    /// The open call with the smallest number that the open call has to wait for, in a part of the class: it came
+    /// earlier, and their claims conflict. None exactly if it waits for no call, or is not open.
     pub fn first_conflict(&self, class: Class, call: u32) -> Option<u32>
         ensures claims { result ≡ first_blocking class (claim_by call self.now) self.now }
         ensures calls { (pending : List CallEntry) → self.now ≡ claims_of pending
             → result ≡ blocker_of class (open_call call pending) pending }
     {
-        // The oldest waits for none, and most calls are alone.
+        // The oldest waits for no other, and most calls are alone.
         if self.is_oldest(call) {
             return None;
         }
@@ -134,7 +134,7 @@ impl TryCopy for ClaimIndex {
     }
 }
 
-/// A number that is smaller than another.
+/// A number, if it is smaller than another.
 fn before(call: u32, found: Option<u32>) -> Option<u32>
     ensures { result ≡ number_before call found }
 {

@@ -1,15 +1,15 @@
-//! Class block at a call's Enter and at its driver's reply.
+//! How class block handles a call's Enter and its driver's reply.
 #![tactic(auto)]
 
 ghost use Rattle.std.specs.Prelude.{◌≡◌, ◌+◌, ◌^◌, ◌≤◌, true};
 ghost use Rattle.nook_data.specs.Classes.{accept, admit, blocks_of_op, first_of_op, is_of_class};
 
-use class_table::{blocks_of_op, entry_place, first_of_op};
+use class_table::{blocks_of_op, entry_address, first_of_op};
 use nook_data::calls::Op;
 use nook_data::classes::{Accept, Admit, Class, ClassState};
 use nook_data::steps::FailCause;
 
-/// The status that tells that block 0 of a Read or Write failed; the next tells block 1, and so on.
+/// The status that reports that block 0 of a Read or Write failed; the next reports block 1, and so on.
 const FIRST_IO_STATUS: u32 = 256;
 
 /// What becomes of an operation of class block when it is entered: it always goes to its driver.
@@ -21,14 +21,14 @@ pub fn admit(thread: u8, op: &Op, state: &ClassState) -> Admit
     let _ = state;
     match op {
         Op::Read { .. } | Op::Write { .. } | Op::Get { .. } | Op::Set { .. } => Admit::Enter {
-            entry: entry_place(Class::Block, op),
+            entry: entry_address(Class::Block, op),
         },
         _ => unreachable!(),
     }
 }
 
 /// What becomes of an operation whose driver replies with `status`: 0 is accepted; 256 + i of a Read or Write
-/// that covers more than i blocks tells that its block number i, from 0, failed; any other status is a failure.
+/// that covers more than i blocks reports that its block with index i failed; any other status is a failure.
 pub fn accept(op: &Op, status: u32) -> Accept
     requires { first_of_op op.now + blocks_of_op op.now ≤ 2 ^ 32 }
     ensures { result ≡ accept op.now status }

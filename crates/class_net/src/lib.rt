@@ -1,15 +1,15 @@
-//! Class net at a call's Enter and at its driver's reply.
+//! How class net handles a call's Enter and its driver's reply.
 #![tactic(auto)]
 
 ghost use Rattle.std.specs.Prelude.{◌≡◌, true};
 ghost use Rattle.nook_data.specs.Classes.{accept, admit, is_of_class};
 
-use class_table::entry_place;
+use class_table::entry_address;
 use nook_data::calls::Op;
 use nook_data::classes::{Accept, Admit, Class, ClassState};
 use nook_data::steps::FailCause;
 
-/// What becomes of an operation of class net when it is entered: a Recv takes a frame of the kernel's receive
+/// What becomes of an operation of class net when it is entered: a Recv takes a frame from the kernel's receive
 /// queue, if there is one; all others go to their driver.
 pub fn admit(thread: u8, op: &Op, state: &ClassState) -> Admit
     requires { is_of_class Class.Net op.now ≡ true }
@@ -19,7 +19,7 @@ pub fn admit(thread: u8, op: &Op, state: &ClassState) -> Admit
     match op {
         Op::Recv if state.queued > 0 => Admit::TakeFrame,
         Op::Send { .. } | Op::Recv | Op::Get { .. } | Op::Set { .. } => Admit::Enter {
-            entry: entry_place(Class::Net, op),
+            entry: entry_address(Class::Net, op),
         },
         _ => unreachable!(),
     }

@@ -1,16 +1,16 @@
-//! Class sound at a call's Enter and at its driver's reply.
+//! How class sound handles a call's Enter and its driver's reply.
 #![tactic(auto)]
 
 ghost use Rattle.std.specs.Prelude.{◌≡◌, true};
 ghost use Rattle.nook_data.specs.Classes.{accept, admit, is_of_class};
 
-use class_table::entry_place;
+use class_table::entry_address;
 use nook_data::calls::{Answer, Op};
 use nook_data::classes::{Accept, Admit, Class, ClassState};
 use nook_data::steps::FailCause;
 
-/// What becomes of an operation of class sound when it is entered. An Open goes to its driver where the stream
-/// is free, a Play or Close where the calling thread has it; else they are answered at once.
+/// What becomes of an operation of class sound when it is entered. An Open goes to its driver if the stream
+/// is free, a Play or Close if the calling thread has it; otherwise they are answered at once.
 pub fn admit(thread: u8, op: &Op, state: &ClassState) -> Admit
     requires { is_of_class Class.Sound op.now ≡ true }
     ensures { result ≡ admit Class.Sound thread op.now state.now.holder state.now.queued }
@@ -23,7 +23,7 @@ pub fn admit(thread: u8, op: &Op, state: &ClassState) -> Admit
         ),
         (Op::Open | Op::Play { .. } | Op::Close | Op::Get { .. } | Op::Set { .. }, _) =>
             Admit::Enter {
-                entry: entry_place(Class::Sound, op),
+                entry: entry_address(Class::Sound, op),
             },
         _ => unreachable!(),
     }

@@ -1,4 +1,4 @@
-//! The four configuration words of a class: what each is at first, and how great it may be.
+//! The four configuration words of a class: their initial and maximum values.
 
 ghost use Rattle.std.specs.Prelude.{◌≡◌, ◌<◌};
 ghost use Rattle.nook_data.specs.Classes.{default_of, defaults_of, maximum_of};
@@ -6,7 +6,7 @@ ghost use Rattle.nook_data.specs.Classes.{default_of, defaults_of, maximum_of};
 use nook_data::classes::Class;
 use nook_data::lists::Word;
 
-/// What a register and the record hold at first, for key 0 to 3.
+/// The initial value of a register and of the record, for key 0 to 3.
 pub fn default_of(class: Class, key: u32) -> Word
     requires { key < 4 }
     ensures { result ≡ default_of class key }
@@ -21,7 +21,7 @@ pub fn default_of(class: Class, key: u32) -> Word
     }
 }
 
-/// The greatest value of key 0 to 3.
+/// The maximum value of key 0 to 3.
 pub fn maximum_of(class: Class, key: u32) -> Word
     requires { key < 4 }
     ensures { result ≡ maximum_of class key }
@@ -39,7 +39,7 @@ pub fn maximum_of(class: Class, key: u32) -> Word
     }
 }
 
-/// What all four keys hold at first, in order.
+/// The initial values of all four keys, in order.
 pub fn defaults_of(class: Class) -> [Word; 4]
     ensures { result ≡ defaults_of class }
 {

@@ -10,15 +10,15 @@ use crate::operation::{blocks_of_op, first_of_op};
 use nook_data::calls::Op;
 use nook_data::classes::Class;
 
-/// Whether two operations of the class conflict: a Set does with every other; of class block, a Write with a
-/// Read or Write of a common block; of class net, two Recvs; of class sound, any two of Open, Play and Close.
+/// Whether two operations of the class conflict: a Set conflicts with every other; in class block, a Write with a
+/// Read or Write of a common block; in class net, two Recvs; in class sound, any two of Open, Play and Close.
 pub fn conflicts(class: Class, first: &Op, second: &Op) -> bool
     ensures { result ≡ conflicts class first.now second.now }
 {
     is_set(first) || is_set(second) || clash(class, first, second)
 }
 
-/// A law: whichever of two operations is named first, the answer is the same.
+/// A law: the order of the two operations does not matter.
 pub fn conflicts_are_symmetric()
     ensures { (class : Class) (first second : Op) → conflicts class first second ≡ conflicts class second first }
 {}

@@ -1,42 +1,42 @@
-//! The entries of a driver: at which place, from 0, each stands in the class's order.
+//! The entries of a driver: the index of each in the class's order.
 
 ghost use Rattle.std.specs.Prelude.{◌≡◌};
-ghost use Rattle.nook_data.specs.Classes.{entry_place, get_place, init_place, open_place, set_place};
+ghost use Rattle.nook_data.specs.Classes.{entry_address, get_number, init_address, open_point, set_position};
 
 use nook_data::calls::Op;
 use nook_data::classes::Class;
 
-/// The place of the entry of an operation of the class.
-pub fn entry_place(class: Class, op: &Op) -> u32
-    ensures { result ≡ entry_place class op.now }
+/// The index of the entry for an operation of the class.
+pub fn entry_address(class: Class, op: &Op) -> u32
+    ensures { result ≡ entry_address class op.now }
 {
     match op {
         Op::Read { .. } | Op::Send { .. } => 1,
         Op::Write { .. } | Op::Recv | Op::Play { .. } => 2,
-        Op::Open => open_place(),
+        Op::Open => open_point(),
         Op::Close => 3,
-        Op::Get { .. } => get_place(class),
-        Op::Set { .. } => set_place(class),
+        Op::Get { .. } => get_number(class),
+        Op::Set { .. } => set_position(class),
     }
 }
 
-/// The place of init, which every class has.
-pub fn init_place() -> u32
-    ensures { result ≡ init_place }
+/// The index of init, which every class has.
+pub fn init_address() -> u32
+    ensures { result ≡ init_address }
 {
     0
 }
 
-/// The place of open in class sound.
-pub fn open_place() -> u32
-    ensures { result ≡ open_place }
+/// The index of open in class sound.
+pub fn open_point() -> u32
+    ensures { result ≡ open_point }
 {
     1
 }
 
-/// The place of get.
-pub fn get_place(class: Class) -> u32
-    ensures { result ≡ get_place class }
+/// The index of get.
+pub fn get_number(class: Class) -> u32
+    ensures { result ≡ get_number class }
 {
     match class {
         Class::Block | Class::Net => 3,
@@ -44,9 +44,9 @@ pub fn get_place(class: Class) -> u32
     }
 }
 
-/// The place of set.
-pub fn set_place(class: Class) -> u32
-    ensures { result ≡ set_place class }
+/// The index of set.
+pub fn set_position(class: Class) -> u32
+    ensures { result ≡ set_position class }
 {
     match class {
         Class::Block | Class::Net => 4,

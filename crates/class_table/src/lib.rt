@@ -1,4 +1,4 @@
-//! What a class fixes for every part of it: which operations are right, which of them wait for each other, the
+//! What a class fixes for all its parts: which operations are valid, which of them wait for each other, the
 //! configuration words, and the entries of a driver.
 //!
 //! Each function computes the definition of its name.
@@ -11,5 +11,5 @@ mod operation;
 
 pub use config::{default_of, defaults_of, maximum_of};
 pub use conflict::{conflicts, conflicts_are_symmetric};
-pub use entry::{entry_place, init_place, open_place, set_place};
+pub use entry::{entry_address, init_address, open_point, set_position};
 pub use operation::{blocks_of_op, first_of_op, is_of_class, static_check};

@@ -1,4 +1,4 @@
-//! The static check: what is wrong with an operation whatever its part's state.
+//! The static check: what is wrong with an operation, whatever its part's state.
 
 ghost use Rattle.std.specs.Prelude.{◌≡◌, ◌+◌, ◌<◌, ◌≤◌, ◌^◌, IsNone};
 ghost use Rattle.nook_data.specs.Classes.{blocks_of_op, check_length, check_op, check_range, first_of_op, is_of_class};
@@ -11,7 +11,7 @@ use nook_data::limits::{BLOCK_WORDS, MOST_BLOCKS, MOST_FRAME_WORDS};
 use nook_data::lists::Words;
 
 /// The answer that an operation gets in every state, if there is one: it is of another class, a length or a key
-/// is wrong, a value is too great, or a block lies past the end of a disk of `blocks` blocks.
+/// is wrong, a value is too large, or a block is past the end of a disk of `blocks` blocks.
 pub fn static_check(class: Class, blocks: u32, op: &Op) -> Option<Answer>
     ensures answer { result ≡ static_check class blocks op.now }
     ensures range { IsNone result → first_of_op op.now + blocks_of_op op.now ≤ blocks }

@@ -1,4 +1,4 @@
--- The numbers that clocks stand for.
+-- The numbers that clocks represent.
 use Rattle.std.specs.Prelude.{ℕ, List, [], ◌∷◌, cond, nat_lt}
 
 -- the later of two times

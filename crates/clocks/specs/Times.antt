@@ -1,4 +1,4 @@
--- What times and rows of stamps stand for.
+-- What times and lists of stamps represent.
 use Rattle.std.specs.Prelude.{ℕ, suc, List, [], ◌∷◌, ◌++◌}
 use Rattle.clocks.specs.Clocks.{latest}
 use Rattle.clocks.specs.declared.clock.Time.{Time}

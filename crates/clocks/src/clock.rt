@@ -6,13 +6,13 @@ ghost use Rattle.std.specs.Prelude.{◌≡◌, suc};
 use std::marker::Model;
 use std::snapshot::Snapshot;
 
-/// A clock, which stands for a time: a number from 0 on.
+/// A clock. It represents a time, which is a number from 0 on.
 #[derive(Drop)]
 pub struct Clock {
     time: Time,
 }
 
-/// How a time comes from others, which contracts alone remember.
+/// How a time follows from other times; only contracts know it.
 #[derive(Drop)]
 enum Time {
     Start,

@@ -1,7 +1,7 @@
-//! Lamport's clocks, by which threads that work at several desks put what they do into one order.
+//! Lamport clocks: they put what threads do at several desks into one order.
 //!
-//! The time of a clock exists in contracts alone: a clock and a list of stamps take a byte or two, and no operation on
-//! them costs more than that.
+//! The time of a clock exists only in contracts: a clock and a list of stamps take one or two bytes, and no operation
+//! on them costs more than that.
 #![tactic(auto)]
 
 mod clock;

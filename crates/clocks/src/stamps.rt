@@ -13,7 +13,7 @@ pub struct Stamps {
     row: Row,
 }
 
-/// The last stamp and, remembered by contracts alone, those before it.
+/// The last stamp and, known only to contracts, those before it.
 #[derive(Drop)]
 enum Row {
     Empty,
@@ -31,7 +31,7 @@ impl Model for Stamps {
 }
 
 impl Stamps {
-    /// No stamp.
+    /// An empty list of stamps.
     pub fn new() -> Stamps
         ensures { result ≡ [] }
     {

@@ -1,4 +1,4 @@
--- A number among the words, and its text.
+-- A number among the arguments, and its text.
 use Rattle.std.proofs.Common.{◌≡◌, ℕ, zero, suc, ◌^◌, ◌<◌, ◌≤◌, ◌==◌, ◌&&◌, nat_le, not, if◌then◌else◌, Bool, true, false, Option, Some, None, Result, Ok, Err, List, [], ◌∷◌, IfNone, IfSome, get_or, refl, sym, ap, ◌∙◌, arith, true≢false, codes, decimal}
 use Rattle.std.proofs.lemmas.Bool.{and_parts, le-leb, leb-true}
 use Rattle.std.proofs.lemmas.Fmt.{decimal-digits_value, first_decimal, parse-decimal}
@@ -7,7 +7,7 @@ use Rattle.std.specs.Fmt.{digits}
 use Rattle.std.specs.Str.Parse.{ParsesUnsigned, IsNumeral, digits_value}
 use Rattle.command_forms.specs.Forms.{is_plain, within}
 
--- what a plain text that was parsed is
+-- a plain text that was parsed is its number in decimal
 
 not_equal : (a b : ℕ) → not (a == b) ≡ true → (a == b) ≡ false
 not_equal a b h = by_test (a == b) h
@@ -59,7 +59,7 @@ is_within most n low high =
     let second : nat_le n most ≡ true = le-leb n most high in
     rw (first, second) refl
 
--- what the function gives
+-- what the function returns
 
 found_by : (bs : List ℕ) (most n : ℕ) (low high plain : Bool) → low ≡ nat_le 1 n → high ≡ nat_le n most → (plain ≡ true → bs ≡ decimal n)
     → IfSome (if low && high && plain then Some n else None) (λ m. (bs ≡ decimal m) × (1 ≤ m) × (m ≤ most))

@@ -1,4 +1,4 @@
--- Words are of at most one form.
+-- Arguments name at most one subcommand.
 use Rattle.std.proofs.Common.{◌≡◌, ℕ, Option, Some, None, List, [], ◌∷◌, if◌then◌else◌, bytes_eq, codes, decimal, sym, ap, ◌∙◌, arith}
 use Rattle.std.proofs.lemmas.Fmt.{decimal_is_IsNumeral}
 use Rattle.std.specs.Str.Parse.{digits_value}
@@ -6,7 +6,7 @@ use Rattle.command_forms.specs.Forms.{IsForm}
 use Rattle.command_forms.specs.declared.words.Form.{Form}
 use Rattle.command_forms.specs.declared.words.Form.TheVariants as form
 
--- the form that words name, whatever the numbers among them
+-- the subcommand that the arguments name, for any numbers among them
 
 abbrev one_word : List ℕ → Option Form
 one_word word =
@@ -39,7 +39,7 @@ named (word ∷ second ∷ []) = two_words word second
 named (word ∷ second ∷ third ∷ []) = three_words word second third
 named (word ∷ second ∷ third ∷ fourth ∷ words) = None
 
--- words of a form name it
+-- the arguments of a subcommand name it
 is_named : (words : List (List ℕ)) (asked : Form) → IsForm words asked → named words ≡ Some asked
 is_named words form.Run is = ap named is
 is_named words form.RunThreads is = ap named is

@@ -1,4 +1,4 @@
--- The forms of words.
+-- The subcommands, including `--help` and `--version`.
 use Rattle.std.specs.Prelude.{◌≡◌, ℕ, ◌≤◌, ◌==◌, ◌&&◌, nat_le, not, if◌then◌else◌, Bool, true, false, Option, Some}
 use Rattle.std.specs.Prelude.{None, List, [], ◌∷◌, codes, decimal}
 use Rattle.command_forms.specs.declared.words.Form.{Form}
@@ -6,7 +6,7 @@ use Rattle.command_forms.specs.declared.words.Form.TheVariants as form
 use Rattle.command_forms.specs.declared.words.WaitingForm.{WaitingForm}
 use Rattle.command_forms.specs.declared.words.WaitingForm.TheVariants as waiting
 
--- the words are of this form; numbers are in decimal, with no sign and no leading zero
+-- the arguments are this subcommand; numbers are decimal, without a sign or a leading zero
 abbrev pub IsForm : List (List ℕ) → Form → Type 0
 IsForm words form.Run = words ≡ codes "run" ∷ []
 IsForm words form.RunThreads = words ≡ codes "run" ∷ codes "threads" ∷ []
@@ -26,16 +26,16 @@ IsForm words form.Explore = words ≡ codes "explore" ∷ []
 IsForm words form.Help = words ≡ codes "--help" ∷ []
 IsForm words form.Version = words ≡ codes "--version" ∷ []
 
--- the words are of no form that the program knows
+-- the arguments are no subcommand that the program knows
 abbrev pub IsNoForm : List (List ℕ) → Type 0
 IsNoForm words = (form : Form) → IsForm words form → ⊥
 
--- the form of some words, if they are of one
+-- the subcommand that the arguments name, if any
 abbrev pub Asks : List (List ℕ) → Option Form → Type 0
 Asks words None = IsNoForm words
 Asks words (Some form) = IsForm words form
 
--- the source is read for it
+-- the subcommand reads the source
 abbrev pub is_reading : Form → Bool
 is_reading form.Run = true
 is_reading form.RunThreads = true
@@ -54,38 +54,38 @@ is_reading form.Explore = true
 is_reading form.Help = false
 is_reading form.Version = false
 
--- the most bytes of an input
+-- the most bytes that an input may have
 abbrev pub limit_of : Form → ℕ
 limit_of form.Audit = 16777216
 limit_of asked = 1048576
 
--- nothing is read for these words
+-- nothing is read for these arguments
 abbrev pub AskUnread : List (List ℕ) → Type 0
 AskUnread words = (form : Form) → IsForm words form → is_reading form ≡ false
 
--- it waits for nobody: threads and mirrors alone wait, for their turns at a part
+-- it never waits; only threads and mirrors wait, for their turns at a part
 abbrev pub is_alone : Form → Bool
 is_alone form.RunThreads = false
 is_alone form.Mirror = false
 is_alone asked = true
 
--- what these words ask for waits for nobody
+-- what these arguments ask for never waits
 abbrev pub AskAlone : List (List ℕ) → Type 0
 AskAlone words = (form : Form) → IsForm words form → is_alone form ≡ true
 
--- it has one answer: threads and mirrors take their turns at a part in many orders, and how many states `explore` counts
--- is left to the program
+-- it has only one possible answer: threads and mirrors take their turns at a part in many orders, and the program may
+-- choose how many states `explore` counts
 abbrev pub has_one_answer : Form → Bool
 has_one_answer form.RunThreads = false
 has_one_answer form.Mirror = false
 has_one_answer form.Explore = false
 has_one_answer asked = true
 
--- what these words ask for has one answer
+-- what these arguments ask for has only one possible answer
 abbrev pub AskOneAnswer : List (List ℕ) → Type 0
 AskOneAnswer words = (form : Form) → IsForm words form → has_one_answer form ≡ true
 
--- the form that a waiting form is
+-- the subcommand of a waiting one
 abbrev pub form_for : WaitingForm → Form
 form_for waiting.RunThreads = form.RunThreads
 form_for waiting.Mirror = form.Mirror
@@ -95,6 +95,6 @@ abbrev pub is_plain : List ℕ → Bool
 is_plain [] = false
 is_plain (byte ∷ rest) = not (byte == 43) && not (byte == 48)
 
--- a number from 1 to a greatest one, whose text is plain
+-- a number from 1 to `most` whose text is plain
 abbrev pub within : ℕ → ℕ → Bool → Option ℕ
 within most number plain = if nat_le 1 number && nat_le number most && plain then Some number else None

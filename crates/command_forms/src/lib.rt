@@ -1,4 +1,4 @@
-//! The forms of words that the program knows: what it is asked to do.
+//! The subcommands that the program knows, including `--help` and `--version`.
 #![tactic(auto)]
 
 mod laws;

@@ -1,4 +1,4 @@
-//! The forms of words that the program knows.
+//! The subcommands that the program knows, and their arguments.
 
 ghost use Rattle.std.specs.Prelude.{◌≡◌, ℕ, ◌≤◌, [], ◌∷◌, codes, decimal, map, string_bytes, IfNone, IfSome};
 ghost use Rattle.command_forms.specs.Forms.{AskAlone, IsForm, IsNoForm, form_for, is_plain, within};
@@ -8,40 +8,40 @@ ghost use Rattle.command_forms.specs.Forms.{AskAlone, IsForm, IsNoForm, form_for
 pub enum Form {
     /// `run`: read a scenario, simulate it, write the report.
     Run,
-    /// `run threads`: read a scenario, run each of its threads as one, write the report.
+    /// `run threads`: read a scenario, run each of its threads as a real thread, write the report.
     RunThreads,
     /// `asm`: read an assembler text, write its image.
     Asm,
     /// `dis`: read an image, write its assembler text.
     Dis,
-    /// `gen` N: simulate the generated scenario of a number from 1 to 256, write the line that sums it up.
+    /// `gen` N: simulate the generated scenario of a number from 1 to 256, write a summary line.
     Gen { number: u32 },
     /// `gen` N `scenario`: write that generated scenario.
     GenScenario { number: u32 },
     /// `audit`: read a scenario and a printed report, write whether every line of the report fits.
     Audit,
-    /// `campaign`: read a scenario and faults, simulate it once for each fault, write the table of what became of it.
+    /// `campaign`: read a scenario and faults, simulate it once for each fault, write a table of the results.
     Campaign,
     /// `mirror`: read a scenario of two disks, keep one disk on both, write the report.
     Mirror,
     /// `list`: read an assembler text, write its words, labels and entries with their addresses and lines.
     List,
-    /// `trace` P B: read a scenario, simulate it up to burst B of part P, write what that burst did, turn by turn.
+    /// `trace` P B: read a scenario, simulate it up to burst B of part P, write that burst instruction by instruction.
     Trace { part: u32, burst: u32 },
-    /// `guard`: read a scenario, simulate it with each driver stopped before it breaks its contract, write the traps and
-    /// the report.
+    /// `guard`: read a scenario, simulate it with each driver stopped before it breaks its contract, write the traps
+    /// and the report.
     Guard,
     /// `guard scenario`: write the scenario with these traps among its faults.
     GuardScenario,
     /// `explore`: read a scenario, follow every order of its steps, write a row for each outcome.
     Explore,
-    /// `--help`: write a line for each form and for each status.
+    /// `--help`: write a line for each subcommand and for each status.
     Help,
     /// `--version`: write the program's version.
     Version,
 }
 
-/// A form that waits for a turn at a part: threads call the part, or the two sides of a mirror.
+/// A subcommand that waits for a turn at a part. Its callers are threads, or the two sides of a mirror.
 #[derive(Clone, Copy, Debug, PartialEq, Eq)]
 pub enum WaitingForm {
     /// `run threads`.
@@ -56,7 +56,7 @@ const MOST_GENERATED: u32 = 256;
 /// The greatest number of a part, counted from 0.
 const LAST_PART: u32 = 7;
 
-/// The form of the words; `None` exactly where they are of no form.
+/// The subcommand that the arguments name; `None` exactly if they name none.
 pub fn form_of(words: &[String]) -> Option<Form>
     ensures found { IfSome result (IsForm (map string_bytes words.now)) }
     ensures none { IfNone result (IsNoForm (map string_bytes words.now)) }
@@ -69,9 +69,10 @@ pub fn form_of(words: &[String]) -> Option<Form>
     }
 }
 
-/// The form of the words that waits; `None` exactly where they ask for nothing that does.
+/// The waiting subcommand that the arguments name; `None` exactly if they ask for nothing that waits.
 pub fn waiting_form_of(words: &[String]) -> Option<WaitingForm>
-    ensures found { IfSome result (λ waiting. IsForm (map string_bytes words.now) (form_for waiting)) }
+    ensures found { IfSome result
+        (λ waiting. IsForm (map string_bytes words.now) (form_for waiting)) }
     ensures none { IfNone result (AskAlone (map string_bytes words.now)) }
 {
     match form_of(words) {
@@ -81,7 +82,7 @@ pub fn waiting_form_of(words: &[String]) -> Option<WaitingForm>
     }
 }
 
-/// The form of one word.
+/// The subcommand of one argument.
 fn form_of_word(word: &str) -> Option<Form>
     ensures found { IfSome result (IsForm (word.now ∷ [])) }
     ensures none { IfNone result (IsNoForm (word.now ∷ [])) }
@@ -113,7 +114,7 @@ fn form_of_word(word: &str) -> Option<Form>
     }
 }
 
-/// The form of two words.
+/// The subcommand of two arguments.
 fn form_of_two(word: &str, second: &str) -> Option<Form>
     ensures found { IfSome result (IsForm (word.now ∷ second.now ∷ [])) }
     ensures none { IfNone result (IsNoForm (word.now ∷ second.now ∷ [])) }
@@ -129,7 +130,7 @@ fn form_of_two(word: &str, second: &str) -> Option<Form>
     }
 }
 
-/// The form of `run` and another word.
+/// The subcommand of `run` and another argument.
 fn threads_form(second: &str) -> Option<Form>
     ensures found { IfSome result (IsForm (codes "run" ∷ second.now ∷ [])) }
     ensures none { IfNone result (IsNoForm (codes "run" ∷ second.now ∷ [])) }
@@ -141,7 +142,7 @@ fn threads_form(second: &str) -> Option<Form>
     }
 }
 
-/// The form of `guard` and another word.
+/// The subcommand of `guard` and another argument.
 fn guarded_form(second: &str) -> Option<Form>
     ensures found { IfSome result (IsForm (codes "guard" ∷ second.now ∷ [])) }
     ensures none { IfNone result (IsNoForm (codes "guard" ∷ second.now ∷ [])) }
@@ -153,7 +154,7 @@ fn guarded_form(second: &str) -> Option<Form>
     }
 }
 
-/// The form of three words.
+/// The subcommand of three arguments.
 fn form_of_three(word: &str, second: &str, third: &str) -> Option<Form>
     ensures found { IfSome result (IsForm (word.now ∷ second.now ∷ third.now ∷ [])) }
     ensures none { IfNone result (IsNoForm (word.now ∷ second.now ∷ third.now ∷ [])) }
@@ -167,7 +168,7 @@ fn form_of_three(word: &str, second: &str, third: &str) -> Option<Form>
     }
 }
 
-/// The form of `trace`, a part and a burst.
+/// The subcommand of `trace`, a part and a burst.
 fn trace_form(part: &str, burst: &str) -> Option<Form>
     ensures found { IfSome result (IsForm (codes "trace" ∷ part.now ∷ burst.now ∷ [])) }
     ensures none { IfNone result (IsNoForm (codes "trace" ∷ part.now ∷ burst.now ∷ [])) }
@@ -177,7 +178,7 @@ fn trace_form(part: &str, burst: &str) -> Option<Form>
     Some(Form::Trace { part, burst })
 }
 
-/// The number of a part, from 0 to 7 in decimal, with no sign and no leading zero.
+/// The number of a part, from 0 to 7 in decimal, without a sign or a leading zero.
 fn part_of(text: &str) -> Option<u32>
     ensures found { IfSome result (λ n. (text.now ≡ decimal n) × (n ≤ 7)) }
     ensures none { IfNone result ((n : ℕ) → text.now ≡ decimal n → n ≤ 7 → ⊥) }
@@ -189,7 +190,7 @@ fn part_of(text: &str) -> Option<u32>
     }
 }
 
-/// The form of `gen` and a number.
+/// The subcommand of `gen` and a number.
 fn generated_form(number: &str) -> Option<Form>
     ensures found { IfSome result (IsForm (codes "gen" ∷ number.now ∷ [])) }
     ensures none { IfNone result (IsNoForm (codes "gen" ∷ number.now ∷ [])) }
@@ -200,7 +201,7 @@ fn generated_form(number: &str) -> Option<Form>
     }
 }
 
-/// The form of `gen`, a number and `scenario`.
+/// The subcommand of `gen`, a number and `scenario`.
 fn scenario_form(number: &str) -> Option<Form>
     ensures found { IfSome result (IsForm (codes "gen" ∷ number.now ∷ codes "scenario" ∷ [])) }
     ensures none { IfNone result (IsNoForm (codes "gen" ∷ number.now ∷ codes "scenario" ∷ [])) }
@@ -211,7 +212,7 @@ fn scenario_form(number: &str) -> Option<Form>
     }
 }
 
-/// A number from 1 to a greatest one in decimal, with no sign and no leading zero.
+/// A number from 1 to `most` in decimal, without a sign or a leading zero.
 fn number_up_to(most: u32, text: &str) -> Option<u32>
     ensures found { IfSome result (λ n. (text.now ≡ decimal n) × (1 ≤ n) × (n ≤ most)) }
     ensures none { IfNone result ((n : ℕ) → text.now ≡ decimal n → 1 ≤ n → n ≤ most → ⊥) }
@@ -222,7 +223,7 @@ fn number_up_to(most: u32, text: &str) -> Option<u32>
     }
 }
 
-/// A number from 1 to a greatest one, whose text is plain.
+/// A number from 1 to `most` whose text is plain.
 fn within(most: u32, number: u32, plain: bool) -> Option<u32>
     ensures { result ≡ within most number plain }
 {

@@ -1,4 +1,4 @@
--- After events for which monitors stand that judge alike, parts are judged and counted alike.
+-- Parts are judged and counted alike after events whose monitors judge alike.
 use Rattle.std.proofs.Common.{◌≡◌, ℕ, Option, Some, None, List, [], refl, sym, ap, ◌∙◌}
 use Rattle.std.specs.List.{fold}
 use Rattle.std.specs.Option.{option_map}
@@ -6,27 +6,27 @@ use Rattle.nook_data.specs.declared.verdicts.Break.{Break}
 use Rattle.nook_data.specs.declared.classes.Class.{Class}
 use Rattle.nook_data.specs.declared.steps.Event.{Event}
 use Rattle.promise_defs.specs.Contract.{Known, first_break, known_after, known_first}
-use Rattle.promise_defs.specs.Losses.{tallies_after}
-use Rattle.contract_monitor.specs.Keeping.{Counts, shorter}
-use Rattle.contract_monitor.specs.Monitors.{JudgeAlike, Monitored, StandsFor, counts_of}
+use Rattle.promise_defs.specs.Losses.{call_effects_after}
+use Rattle.contract_monitor.specs.Keeping.{LossCounts, shorter}
+use Rattle.contract_monitor.specs.Monitors.{JudgeAlike, Monitored, Represents, counts_of}
 
 -- the clause of a break
 abbrev pub clause_of : Option Break → Option ℕ
 clause_of found = option_map (λ (b : Break). b.clause) found
 
--- what the judge goes on from: nothing, once a clause is broken
+-- the state from which the judge continues: nothing, once a clause is broken
 abbrev pub judged_from : Option ℕ → Known → Option Known
 judged_from None k = Some (shorter k)
 judged_from (Some clause) k = None
 
--- after these events and after those, a part of this class, with a disk of so many blocks, is judged and counted alike
+-- a part of this class, with a disk of this size, is judged and counted alike after both lists of events
 pub record GoAlike (class : Class) (size : ℕ) (events others : List Event) : Type 0 where
   pub broken : clause_of (first_break class size events) ≡ clause_of (first_break class size others)
   pub known : first_break class size events ≡ None
       → shorter (fold known_after (known_first class size) events) ≡ shorter (fold known_after (known_first class size) others)
   pub from : judged_from (clause_of (first_break class size events)) (fold known_after (known_first class size) events)
       ≡ judged_from (clause_of (first_break class size others)) (fold known_after (known_first class size) others)
-  pub tallies : fold tallies_after [] events ≡ fold tallies_after [] others
+  pub call_effects : fold call_effects_after [] events ≡ fold call_effects_after [] others
   pub counts : counts_of events ≡ counts_of others
 
 no_clause : (found : Option Break) → clause_of found ≡ None → found ≡ None
@@ -40,8 +40,8 @@ same_from None (Some b) k l e h = absurd cc
 same_from (Some a) None k l e h = absurd cc
 same_from (Some a) (Some b) k l e h = refl
 
-pub alike : (class : Class) (size : ℕ) (events others : List Event) (m n : Monitored) → StandsFor class size events m
-    → StandsFor class size others n → JudgeAlike m n → GoAlike class size events others
+pub alike : (class : Class) (size : ℕ) (events others : List Event) (m n : Monitored) → Represents class size events m
+    → Represents class size others n → JudgeAlike m n → GoAlike class size events others
 alike class size events others m n s t j =
     let was : Option Break = first_break class size events in
     let now : Option Break = first_break class size others in
@@ -56,6 +56,6 @@ alike class size events others m n s t j =
       broken = broken;
       known = known;
       from = same_from was now k l broken known;
-      tallies = sym s.tallies ∙ (j.tallies ∙ t.tallies);
+      call_effects = sym s.call_effects ∙ (j.call_effects ∙ t.call_effects);
       counts = sym s.counts ∙ (j.counts ∙ t.counts);
     }

@@ -1,16 +1,16 @@
--- One call of a list changes, or each call does; and calls that are answered are taken off.
+-- One call of a list changes, or each call does; and answered calls are removed.
 use Rattle.std.proofs.Common.{◌≡◌, ◌≤◌, ◌<◌, ◌+◌, ◌==◌, ◌||◌, ℕ, zero, suc, Bool, true, false, cond, if◌then◌else◌, List, [], ◌∷◌, length, map, take, slice_set, get_or, Result, Ok, Err, OnOk, IfOk, refl, sym, ap, ap₂, ◌∙◌, subst, arith}
 use Rattle.std.specs.List.{filter, list_any}
 use Rattle.std.proofs.lemmas.List.{length-map}
 use Rattle.std.proofs.Math.Seq.{map-set_same}
 use Rattle.promise_defs.specs.Contract.{OpenCall, change_first}
-use Rattle.promise_defs.specs.Losses.{Tally}
+use Rattle.promise_defs.specs.Losses.{CallEffects}
 use Rattle.contract_monitor.specs.declared.calls.Call.{Call}
 use Rattle.contract_monitor.specs.declared.calls.Change.{Change}
 use Rattle.contract_monitor.specs.declared.calls.Change.TheVariants as changed
-use Rattle.contract_monitor.specs.Calls.{change_to, open_calls, open_change, open_of, tally_calls, tally_change}
+use Rattle.contract_monitor.specs.Calls.{change_to, open_calls, open_change, open_of, effects_calls, effects_change}
 
--- ---- the first so many items
+-- ---- the first n items
 
 to_end : {X : Type 0} (f : X → X) (n : ℕ) (xs : List X) → length xs ≤ n → change_to n f xs ≡ map f xs
 to_end f zero [] l = refl
@@ -54,9 +54,9 @@ pub length_seen : {A X : Type 0} (g : A → X) (i n : ℕ) (xs : List A) → n �
 length_seen g i n xs l e = omega (arith, l, e, length-map xs g)
 
 -- an item that is seen as before
-pub same_at : {A X : Type 0} (g : A → X) (place : ℕ) (xs : List A) (old new : A) → old ≡ get_or xs place old → g new ≡ g old
-    → map g (slice_set xs place new) ≡ map g xs
-same_at g place xs old new is h = map-set_same g xs place new old (h ∙ ap g is)
+pub same_at : {A X : Type 0} (g : A → X) (index : ℕ) (xs : List A) (old new : A) → old ≡ get_or xs index old → g new ≡ g old
+    → map g (slice_set xs index new) ≡ map g xs
+same_at g index xs old new is h = map-set_same g xs index new old (h ∙ ap g is)
 
 -- ---- the call with a number
 
@@ -76,13 +76,13 @@ opened_all changed.Handed number n calls l = to_end _ n calls l
 opened_all (changed.Failed block) number n calls l = to_end _ n calls l
 opened_all changed.OwnPlayed number n calls l = to_end _ n calls l ∙ unchanged (λ (c : OpenCall). c.number == number) calls
 
-pub tallied_all : (change : Change) (number n : ℕ) (ts : List Tally) → length ts ≤ n
-    → change_to n (λ (t : Tally). if t.number == number then tally_change change t else t) ts ≡ tally_calls change number ts
+pub tallied_all : (change : Change) (number n : ℕ) (ts : List CallEffects) → length ts ≤ n
+    → change_to n (λ (t : CallEffects). if t.number == number then effects_change change t else t) ts ≡ effects_calls change number ts
 tallied_all changed.Sent number n ts l = to_end _ n ts l
 tallied_all changed.OwnPlayed number n ts l = to_end _ n ts l
-tallied_all changed.Entered number n ts l = to_end _ n ts l ∙ unchanged (λ (t : Tally). t.number == number) ts
-tallied_all changed.Handed number n ts l = to_end _ n ts l ∙ unchanged (λ (t : Tally). t.number == number) ts
-tallied_all (changed.Failed block) number n ts l = to_end _ n ts l ∙ unchanged (λ (t : Tally). t.number == number) ts
+tallied_all changed.Entered number n ts l = to_end _ n ts l ∙ unchanged (λ (t : CallEffects). t.number == number) ts
+tallied_all changed.Handed number n ts l = to_end _ n ts l ∙ unchanged (λ (t : CallEffects). t.number == number) ts
+tallied_all (changed.Failed block) number n ts l = to_end _ n ts l ∙ unchanged (λ (t : CallEffects). t.number == number) ts
 
 pub all_changed : {X : Type 0} (f : X → X) (n : ℕ) (xs : List X) → length xs ≤ n → change_to n f xs ≡ map f xs
 all_changed f n xs l = to_end f n xs l
@@ -120,7 +120,7 @@ none_first test f (suc n) (c ∷ calls) l h =
     rw (left_false (test c) (list_any test (take n calls)) h)
     (ap (λ more. c ∷ more) (none_first test f n calls (omega (arith, l)) (right_false (test c) (list_any test (take n calls)) h)))
 
--- the one at a place is the first that does
+-- the one at an index is the first that does
 pub first_at : (test : OpenCall → Bool) (f : OpenCall → OpenCall) (i : ℕ) (ys : List Call) (old new : Call) → i < length ys
     → list_any test (take i (map open_of ys)) ≡ false → old ≡ get_or ys i old → test (open_of old) ≡ true
     → open_of new ≡ f (open_of old) → map open_of (slice_set ys i new) ≡ change_first test f (map open_of ys)
@@ -150,14 +150,14 @@ none_more test i j ys old n l h is t =
     let m : suc i ≡ j = omega (arith, n) in
     subst (λ k. list_any test (take k (map open_of ys)) ≡ false) m (none_next test i ys old l h is t)
 
--- ---- calls that are taken off
+-- ---- calls that are removed
 
 picked : {A X : Type 0} (g : A → X) (b : Bool) (x : A) (xs : List A) (ys : List X) → map g xs ≡ ys
     → map g (cond b (x ∷ xs) xs) ≡ cond b (g x ∷ ys) ys
 picked g true x xs ys h = ap (λ more. g x ∷ more) h
 picked g false x xs ys h = h
 
--- what is seen of those that stay
+-- how those that stay are seen
 pub filter_seen : {A X : Type 0} (g : A → X) (p : A → Bool) (q : X → Bool) → ((x : A) → p x ≡ q (g x)) → (xs : List A)
     → map g (filter p xs) ≡ filter q (map g xs)
 filter_seen g p q same [] = refl

@@ -4,6 +4,6 @@ pub mod Changes
 pub mod Judged
 pub mod Numbers
 pub mod OneBlock
-pub mod Stands
+pub mod Representing
 pub mod Tracking
 pub mod FirstWrong

@@ -1,4 +1,4 @@
--- One block more of those that a Read asks for.
+-- One more block of those that a Read asks for.
 use Rattle.std.proofs.Common.{◌≡◌, ℕ, suc, ◌+◌, ◌-◌, ◌<◌, List, [], ◌++◌, slice_get, ap, ◌∙◌, arith}
 use Rattle.std.specs.Option.{unwrap_or}
 use Rattle.promise_defs.specs.Blocks.{get_blocks}

@@ -30,7 +30,7 @@ use Rattle.contract_monitor.specs.Monitors.{Tracks}
 use Rattle.contract_monitor.proofs.Bursts.{acts_kept}
 use Rattle.contract_monitor.proofs.Judged.{act_least, broken_first, broken_more, handed_first, replays_first, reply_first}
 
--- ---- the frames at the front
+-- ---- the frames of the prefix
 
 first_same : (a b : Bool) → a && b ≡ true → a ≡ true
 first_same true b h = refl
@@ -52,7 +52,7 @@ front_more (x ∷ xs) [] zs h = absurd cc
 front_more (x ∷ xs) (y ∷ ys) zs h =
     rw (first_same (bytes_eq x y) (is_front xs ys) h) (front_more xs ys zs (rest_same (bytes_eq x y) (is_front xs ys) h))
 
--- a frame more is at the front exactly if it is the first after those that are
+-- one more frame extends the prefix exactly if it is the first after the prefix
 front_next : (xs ys : List (List ℕ)) (x : List ℕ) → is_front xs ys ≡ true
     → is_front (x ∷ []) (drop (length xs) ys) ≡ is_front (xs ++ x ∷ []) ys
 front_next [] ys x h = refl
@@ -140,8 +140,8 @@ found_judged : (w : Known) (c : Option OpenCall) (a : Answer) → reply_broken_o
 found_judged w None a = refl
 found_judged w (Some c) a = reply_judged w c c.op a
 
--- deeds break of what is kept what they break of what is known, and leave the same; if they break nothing, each frame
--- was handed up as it was popped
+-- deeds break the same clauses in what is kept as in what is known, and have the same effect; if they break nothing,
+-- each frame was handed up as it was popped
 pub record Crossed (call : ℕ) (ds : List Deed) (w : Known) : Type 0 where
   pub broken : first_broken call (shorter w) ds ≡ first_broken call w ds
   pub same : fold (kept_deed call) (shorter w) ds ≡ shorter (after_deeds call w ds)
@@ -222,7 +222,7 @@ burst_crossed call done e a failure w h =
 
 -- ---- events
 
--- what is kept breaks what the whole breaks, and is kept of what the whole becomes
+-- an event breaks the same clauses in what is kept as in the whole, and what is kept still follows the whole
 record Together (e : Event) (w : Known) : Type 0 where
   broken : event_broken (shorter w) e ≡ event_broken w e
   same : shorter_after (shorter w) e ≡ shorter (known_after w e)

@@ -70,7 +70,7 @@ act_broken k c (act.Played word rate volume) = unless (is_next_of word (play_ins
 act_broken k c (act.Register key value) = register_broken key value k
 act_broken k c a = None
 
--- a reply with this answer, of a call of this operation
+-- a reply with this answer, to a call of this operation
 abbrev pub reply_broken : Known → OpenCall → Op → Answer → Option Clause
 reply_broken k c (Write first words) answer.Done = unless (holds_from 0 (Write first words) k.medium) UnstoredWrite
 reply_broken k c (Read first count) (answer.Blocks words) =
@@ -84,7 +84,7 @@ reply_broken k c (Read first count) (answer.IoError block) = unless (has_block b
 reply_broken k c (Write first words) (answer.IoError block) = unless (has_block block c.failed) UnseenFailure
 reply_broken k c o a = None
 
--- what an accepted reply does, with the answer of a call or of none
+-- what an accepted reply does, with the answer of a call or without one
 abbrev pub reply_deeds : Option Answer → List Deed
 reply_deeds (Some a) = replies a ∷ []
 reply_deeds None = replays ∷ []

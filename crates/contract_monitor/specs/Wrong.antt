@@ -6,16 +6,16 @@ use Rattle.guard_defs.specs.Deeds.{deeds_before, deeds_in, first_clause}
 use Rattle.promise_defs.specs.Contract.{Deed, Known, broken}
 use Rattle.contract_monitor.specs.declared.wrong.WrongDeed.{WrongDeed}
 
--- a deed with so many others before it, where it breaks a clause
+-- a deed with this many deeds before it, if it breaks a clause
 abbrev pub wrong_at : ℕ → Option Clause → Option WrongDeed
-wrong_at place None = None
-wrong_at place (Some clause) = Some (record { place = place; clause = clause })
+wrong_at index None = None
+wrong_at index (Some clause) = Some (record { index = index; clause = clause })
 
 -- the first of some deeds that breaks a clause, in a burst of the call with this number
 abbrev pub wrong_among : ℕ → Known → List Deed → Option WrongDeed
 wrong_among call k ds = wrong_at (deeds_before call k ds) (first_clause call k ds)
 
--- it is told where some clauses are broken
+-- the deed, if any clause is broken
 abbrev pub wrong_of : List Clause → Option WrongDeed → Option WrongDeed
 wrong_of [] wrong = None
 wrong_of (clause ∷ more) wrong = wrong
@@ -25,6 +25,6 @@ abbrev pub call_in : Event → ℕ
 call_in (event.Burst context call burst count e done a failure) = call
 call_in e = 0
 
--- of an event that breaks a clause, the first deed that does, behind what is known
+-- the first deed that breaks a clause in an event, after what is known; none if the event breaks no clause
 abbrev pub first_wrong : Known → Event → Option WrongDeed
 first_wrong k e = wrong_of (broken k e) (wrong_among (call_in e) k (deeds_in e))

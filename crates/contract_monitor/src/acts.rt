@@ -20,10 +20,11 @@ use nook_data::machine::Act;
 use nook_data::memory::NoMemory;
 
 impl Known {
-    /// The acts of a burst of a call, and the smallest clause that they break.
+    /// Takes the acts of a burst of a call, and returns the smallest clause that they break.
     pub fn see_acts(&mut self, call: u32, acts: &[Act]) -> Result<Option<Clause>, NoMemory>
         ensures kept { OnOk result (self.new ≡ fold (kept_act call) self.old acts.now) }
-        ensures broken { IfOk result (λ clause. clause ≡ first_broken call self.old.known (map acted acts.now)) }
+        ensures broken { IfOk result
+            (λ clause. clause ≡ first_broken call self.old.known (map acted acts.now)) }
     {
         let mut broken = None;
         for act in acts {
@@ -33,7 +34,7 @@ impl Known {
         Ok(broken)
     }
 
-    /// One act of a burst of a call, and the smallest clause that it breaks.
+    /// Takes one act of a burst of a call, and returns the smallest clause that it breaks.
     pub fn see_next(&mut self, call: u32, act: &Act) -> Result<Option<Clause>, NoMemory>
         ensures kept { OnOk result (self.new ≡ kept_act call self.old act.now) }
         ensures broken { IfOk result (λ clause. clause
@@ -44,7 +45,7 @@ impl Known {
         Ok(clause)
     }
 
-    /// The smallest clause that an act breaks, in a burst of a call.
+    /// The smallest clause that an act in a burst of a call breaks.
     fn judge_act(&self, call: u32, act: &Act) -> Option<Clause>
         ensures { result ≡ act_broken self.now.known (call_of call self.now.known.calls) act.now }
     {
@@ -100,7 +101,7 @@ impl Known {
         is_asked_to_set(key, value, &self.calls) || is_replay_of(key, value, &self.replay)
     }
 
-    /// One act of a burst of a call.
+    /// Takes one act of a burst of a call.
     fn see_act(&mut self, call: u32, act: &Act) -> Result<(), NoMemory>
         ensures { OnOk result (self.new ≡ kept_act call self.old act.now) }
     {
@@ -132,8 +133,8 @@ impl Known {
     {
         let _first = self.ring.pop_front();
         self.pending.push_back(frame.copy(self.alloc)?)?;
-        self.tally.popped = more(self.tally.popped, 1)?;
-        self.tally.popped_since = more(self.tally.popped_since, 1)?;
+        self.effects.popped = more(self.effects.popped, 1)?;
+        self.effects.popped_since = more(self.effects.popped_since, 1)?;
         Ok(())
     }
 }

@@ -23,11 +23,11 @@ pub fn covers(op: &Op, block: u64) -> bool
     first <= block && block < first + blocks_of_op(op)
 }
 
-/// The words of a block among those of several; what the last ones lack is left out.
-fn block_at(words: &[u32], place: u64) -> &[u32]
-    ensures { result.now ≡ take BLOCK_WORDS (drop (BLOCK_WORDS * place) words.now) }
+/// The words of one block among those of several blocks; missing words are left out.
+fn block_at(words: &[u32], index: u64) -> &[u32]
+    ensures { result.now ≡ take BLOCK_WORDS (drop (BLOCK_WORDS * index) words.now) }
 {
-    let at = place.saturating_mul(BLOCK_WORDS as u64);
+    let at = index.saturating_mul(BLOCK_WORDS as u64);
     if words.len() as u64 <= at {
         return &[];
     }
@@ -38,20 +38,20 @@ fn block_at(words: &[u32], place: u64) -> &[u32]
     rest.split_at(BLOCK_WORDS).0
 }
 
-/// What a Write has for a block that it covers.
+/// A Write's words for a block that it covers.
 pub fn words_for(op: &Op, block: u64) -> &[u32]
     ensures { result.now ≡ words_for op.now block }
 {
     match op {
         Op::Write { first, words } => {
-            let place = block.saturating_sub(u64::from(*first));
-            block_at(words.as_slice(), place)
+            let index = block.saturating_sub(u64::from(*first));
+            block_at(words.as_slice(), index)
         }
         _ => &[],
     }
 }
 
-/// A disk of `count` blocks of zeros; the other classes have no blocks.
+/// A disk of `count` zeroed blocks; the other classes have no blocks.
 pub fn blank_blocks(alloc: Global, class: Class, count: u32) -> Result<Vec<Words>, NoMemory>
     ensures { IfOk result (λ made. made.items ≡ blank_blocks class count) }
 {
@@ -61,7 +61,7 @@ pub fn blank_blocks(alloc: Global, class: Class, count: u32) -> Result<Vec<Words
     }
 }
 
-/// Some blocks of zeros.
+/// A list of zeroed blocks.
 fn blank(alloc: Global, count: u32) -> Result<Vec<Words>, NoMemory>
     ensures { IfOk result (λ made. made.items ≡ replicate count (replicate BLOCK_WORDS 0)) }
 {
@@ -72,7 +72,7 @@ fn blank(alloc: Global, count: u32) -> Result<Vec<Words>, NoMemory>
     Ok(made)
 }
 
-/// Equal blocks or frames of their own.
+/// A copy of blocks or frames.
 pub fn copy_blocks(alloc: Global, blocks: &[Words]) -> Result<Vec<Words>, NoMemory>
     ensures { IfOk result (λ made. made.items ≡ blocks.now) }
 {
@@ -83,7 +83,7 @@ pub fn copy_blocks(alloc: Global, blocks: &[Words]) -> Result<Vec<Words>, NoMemo
     Ok(made)
 }
 
-/// An equal queue of its own.
+/// A copy of a queue.
 pub fn copy_queue<T: TryCopy + Drop>(
     alloc: Global,
     queue: &VecDeque<T>,
@@ -97,7 +97,7 @@ pub fn copy_queue<T: TryCopy + Drop>(
     Ok(made)
 }
 
-/// A block gets words; a number past the last block changes nothing.
+/// Sets a block's words; a number past the last block changes nothing.
 pub fn set_block(medium: &mut [Words], block: u32, words: Words)
     ensures { medium.new ≡ slice_set medium.old block words }
 {
@@ -127,7 +127,7 @@ pub fn holds(op: &Op, medium: &[Words]) -> bool
     true
 }
 
-/// A block's words, where there is one.
+/// A block's words, if there is such a block.
 fn block_words(medium: &[Words], block: u64) -> &[u32]
     ensures { result.now ≡ unwrap_or (slice_get medium.now block) [] }
 {
@@ -138,7 +138,7 @@ fn block_words(medium: &[Words], block: u64) -> &[u32]
     }
 }
 
-/// The words of so many blocks from a first one on, one block after the other.
+/// The words of `count` blocks from a first one on, one block after the other.
 pub fn get_blocks(
     alloc: Global,
     medium: &[Words],
@@ -157,7 +157,7 @@ pub fn get_blocks(
     Ok(made)
 }
 
-/// Adds words at the back.
+/// Appends words.
 fn push_all(made: &mut Words, words: &[u32]) -> Result<(), NoMemory>
     ensures { OnOk result (made.new ≡ made.old ++ words.now) }
 {

@@ -1,12 +1,12 @@
-//! The calls that are open, in the order in which they were made, with what the contract and the losses know of them.
+//! The open calls, in the order in which they were made, with what the contract and the losses know of them.
 
 ghost use Rattle.std.specs.Prelude.{◌≡◌, ◌+◌, ◌<◌, ◌==◌, None, Some, MatchOption, OnOk, IfOk, map, filter, find};
 ghost use Rattle.std.specs.Prelude.{length, not, slice_get, if◌then◌else◌};
 ghost use Rattle.std.specs.List.{list_any};
 ghost use Rattle.promise_defs.specs.Contract.{call_of, change_first, is_answered_in, is_playing, leave_call, new_call};
 ghost use Rattle.promise_defs.specs.Contract.{play_inside, played_more};
-ghost use Rattle.promise_defs.specs.Losses.{new_tally};
-ghost use Rattle.contract_monitor.specs.Calls.{open_calls, open_change, open_of, tally_calls, tally_change, tally_of};
+ghost use Rattle.promise_defs.specs.Losses.{new_effects};
+ghost use Rattle.contract_monitor.specs.Calls.{open_calls, open_change, open_of, effects_calls, effects_change, effects_of};
 
 use crate::blocks::copy_queue;
 use nook_data::calls::{Answer, Op};
@@ -15,8 +15,8 @@ use nook_data::memory::NoMemory;
 use std::alloc::Global;
 use std::collections::VecDeque;
 
-/// A call that is open. `played` are its next samples that were played while it was the first Play Inside, and
-/// `own_played` the samples that were played in its own bursts.
+/// An open call. `played` counts its samples that were played while it was the first Play Inside, and
+/// `own_played` those that were played in its own bursts.
 #[derive(Drop)]
 pub struct Call {
     pub number: u32,
@@ -30,10 +30,10 @@ pub struct Call {
 }
 
 impl Call {
-    /// A call that was made and was not entered yet.
+    /// A call that was made but has not been entered yet.
     pub fn new(alloc: Global, number: u32, op: &Op) -> Result<Call, NoMemory>
         ensures opened { IfOk result (λ made. open_of made ≡ new_call number op.now) }
-        ensures tallied { IfOk result (λ made. tally_of made ≡ new_tally number op.now) }
+        ensures tallied { IfOk result (λ made. effects_of made ≡ new_effects number op.now) }
     {
         Ok(Call {
             number,
@@ -47,10 +47,10 @@ impl Call {
         })
     }
 
-    /// An equal call of its own.
+    /// A copy of the call.
     fn copy(&self, alloc: Global) -> Result<Call, NoMemory>
         ensures opened { IfOk result (λ made. open_of made ≡ open_of self.now) }
-        ensures tallied { IfOk result (λ made. tally_of made ≡ tally_of self.now) }
+        ensures tallied { IfOk result (λ made. effects_of made ≡ effects_of self.now) }
     {
         Ok(Call {
             number: self.number,
@@ -65,7 +65,7 @@ impl Call {
     }
 }
 
-/// What becomes of a call.
+/// How a call changes.
 #[derive(Clone, Copy)]
 pub enum Change {
     /// A new attempt begins.
@@ -80,17 +80,17 @@ pub enum Change {
     OwnPlayed,
 }
 
-/// A count and `by` more. A count that has no room in 64 bits is refused as memory is.
+/// A count plus `by`. A count that does not fit in 64 bits is refused as if memory had run out.
 pub fn more(count: u64, by: u64) -> Result<u64, NoMemory>
     ensures { IfOk result (λ n. n ≡ count + by) }
 {
     count.checked_add(by).ok_or(NoMemory)
 }
 
-/// Equal calls of their own.
+/// A copy of calls.
 pub fn copy_calls(alloc: Global, calls: &[Call]) -> Result<Vec<Call>, NoMemory>
     ensures opened { IfOk result (λ made. map open_of made.items ≡ map open_of calls.now) }
-    ensures tallied { IfOk result (λ made. map tally_of made.items ≡ map tally_of calls.now) }
+    ensures tallied { IfOk result (λ made. map effects_of made.items ≡ map effects_of calls.now) }
 {
     let mut made = Vec::with_capacity(alloc, calls.len())?;
     for call in calls {
@@ -99,12 +99,13 @@ pub fn copy_calls(alloc: Global, calls: &[Call]) -> Result<Vec<Call>, NoMemory>
     Ok(made)
 }
 
-/// The call with a number, where it is open.
+/// The call with a number, if it is open.
 pub fn find_call(calls: &[Call], number: u32) -> Option<&Call>
     ensures opened { MatchOption result (call_of number (map open_of calls.now) ≡ None)
         (λ c. call_of number (map open_of calls.now) ≡ Some (open_of c.now)) }
-    ensures tallied { MatchOption result (find (λ t. t.number == number) (map tally_of calls.now) ≡ None)
-        (λ c. find (λ t. t.number == number) (map tally_of calls.now) ≡ Some (tally_of c.now)) }
+    ensures tallied { MatchOption result
+        (find (λ t. t.number == number) (map effects_of calls.now) ≡ None)
+        (λ c. find (λ t. t.number == number) (map effects_of calls.now) ≡ Some (effects_of c.now)) }
 {
     for call in calls {
         if call.number == number {
@@ -114,12 +115,12 @@ pub fn find_call(calls: &[Call], number: u32) -> Option<&Call>
     None
 }
 
-/// Changes the call with a number, where it is open.
+/// Changes the call with a number, if it is open.
 pub fn change_calls(calls: &mut Vec<Call>, number: u32, change: Change) -> Result<(), NoMemory>
     ensures opened { OnOk result (map open_of calls.new.items
         ≡ open_calls change number (map open_of calls.old.items)) }
-    ensures tallied { OnOk result (map tally_of calls.new.items
-        ≡ tally_calls change number (map tally_of calls.old.items)) }
+    ensures tallied { OnOk result (map effects_of calls.new.items
+        ≡ effects_calls change number (map effects_of calls.old.items)) }
 {
     for i in 0..calls.len() {
         change_if(&mut calls[i], number, change)?;
@@ -130,9 +131,11 @@ pub fn change_calls(calls: &mut Vec<Call>, number: u32, change: Change) -> Resul
 /// Changes a call, if it has this number.
 fn change_if(call: &mut Call, number: u32, change: Change) -> Result<(), NoMemory>
     ensures opened { OnOk result (open_of call.new
-        ≡ (if call.old.number == number then open_change change (open_of call.old) else open_of call.old)) }
-    ensures tallied { OnOk result (tally_of call.new
-        ≡ (if call.old.number == number then tally_change change (tally_of call.old) else tally_of call.old)) }
+        ≡ (if call.old.number == number then open_change change
+        (open_of call.old) else open_of call.old)) }
+    ensures tallied { OnOk result (effects_of call.new
+        ≡ (if call.old.number == number then effects_change change
+        (effects_of call.old) else effects_of call.old)) }
 {
     if call.number == number {
         change_one(call, change)?;
@@ -143,7 +146,8 @@ fn change_if(call: &mut Call, number: u32, change: Change) -> Result<(), NoMemor
 /// Changes a call.
 fn change_one(call: &mut Call, change: Change) -> Result<(), NoMemory>
     ensures opened { OnOk result (open_of call.new ≡ open_change change (open_of call.old)) }
-    ensures tallied { OnOk result (tally_of call.new ≡ tally_change change (tally_of call.old)) }
+    ensures tallied { OnOk result
+        (effects_of call.new ≡ effects_change change (effects_of call.old)) }
 {
     match change {
         Change::Entered => {
@@ -159,20 +163,20 @@ fn change_one(call: &mut Call, change: Change) -> Result<(), NoMemory>
     Ok(())
 }
 
-/// No call is Inside any more.
+/// No call is Inside any longer.
 pub fn leave_calls(calls: &mut Vec<Call>)
     ensures opened { map open_of calls.new.items ≡ map leave_call (map open_of calls.old.items) }
-    ensures tallied { map tally_of calls.new.items ≡ map tally_of calls.old.items }
+    ensures tallied { map effects_of calls.new.items ≡ map effects_of calls.old.items }
 {
     for i in 0..calls.len() {
         leave_one(&mut calls[i]);
     }
 }
 
-/// A call is Inside no more.
+/// A call is no longer Inside.
 fn leave_one(call: &mut Call)
     ensures opened { open_of call.new ≡ leave_call (open_of call.old) }
-    ensures tallied { tally_of call.new ≡ tally_of call.old }
+    ensures tallied { effects_of call.new ≡ effects_of call.old }
 {
     call.inside = false;
 }
@@ -197,11 +201,12 @@ pub fn find_playing(calls: &[Call]) -> Option<&Call>
     None
 }
 
-/// A sample more of the first Play that is Inside was played.
+/// One more sample of the first Play that is Inside was played.
 pub fn play_one(calls: &mut Vec<Call>) -> Result<(), NoMemory>
     ensures opened { OnOk result (map open_of calls.new.items
         ≡ change_first is_playing played_more (map open_of calls.old.items)) }
-    ensures tallied { OnOk result (map tally_of calls.new.items ≡ map tally_of calls.old.items) }
+    ensures tallied { OnOk result
+        (map effects_of calls.new.items ≡ map effects_of calls.old.items) }
 {
     for i in 0..calls.len() {
         if is_playing(&calls[i]) {
@@ -211,21 +216,21 @@ pub fn play_one(calls: &mut Vec<Call>) -> Result<(), NoMemory>
     Ok(())
 }
 
-/// A sample more of a Play was played.
+/// One more sample of a Play was played.
 fn play_more(call: &mut Call) -> Result<(), NoMemory>
     ensures opened { OnOk result (open_of call.new ≡ played_more (open_of call.old)) }
-    ensures tallied { OnOk result (tally_of call.new ≡ tally_of call.old) }
+    ensures tallied { OnOk result (effects_of call.new ≡ effects_of call.old) }
 {
     call.played = more(call.played, 1)?;
     Ok(())
 }
 
-/// The call with a number is open no more.
+/// The call with a number is no longer open.
 pub fn close_call(calls: &mut Vec<Call>, number: u32)
     ensures opened { map open_of calls.new.items
         ≡ filter (λ c. not (number == c.number)) (map open_of calls.old.items) }
-    ensures tallied { map tally_of calls.new.items
-        ≡ filter (λ t. not (number == t.number)) (map tally_of calls.old.items) }
+    ensures tallied { map effects_of calls.new.items
+        ≡ filter (λ t. not (number == t.number)) (map effects_of calls.old.items) }
 {
     calls.retain(|call| number != call.number);
 }
@@ -242,12 +247,13 @@ fn is_answered(answers: &[(u32, Answer)], number: u32) -> bool
     false
 }
 
-/// Calls that are answered are open no more.
+/// Answered calls are no longer open.
 pub fn close_calls(calls: &mut Vec<Call>, answers: &[(u32, Answer)])
     ensures opened { map open_of calls.new.items
         ≡ filter (λ c. not (is_answered_in answers.now c)) (map open_of calls.old.items) }
-    ensures tallied { map tally_of calls.new.items
-        ≡ filter (λ t. not (list_any (λ a. a.0 == t.number) answers.now)) (map tally_of calls.old.items) }
+    ensures tallied { map effects_of calls.new.items
+        ≡ filter (λ t. not (list_any (λ a. a.0 == t.number) answers.now))
+        (map effects_of calls.old.items) }
 {
     calls.retain(|call| !is_answered(answers, call.number));
 }

@@ -12,7 +12,7 @@ pub fn unless(kept: bool, clause: Clause) -> Option<Clause>
     if kept { None } else { Some(clause) }
 }
 
-/// The clause with the smaller number of those that are broken.
+/// The smaller of the broken clauses.
 pub fn smaller(broken: Option<Clause>, other: Option<Clause>) -> Option<Clause>
     ensures { result ≡ smaller broken other }
 {

@@ -1,30 +1,30 @@
-//! Whether two monitors go on alike.
+//! Whether two monitors judge and count alike from now on.
 
 ghost use Rattle.std.specs.Prelude.{◌≡◌, true, map};
-ghost use Rattle.contract_monitor.specs.Calls.{open_of, tally_of};
+ghost use Rattle.contract_monitor.specs.Calls.{open_of, effects_of};
 
 use crate::calls::Call;
-use crate::known::{Known, Tally};
+use crate::known::{Known, LossCounts};
 use nook_data::digest::mixed;
 use nook_data::ring::are_same_queues;
 use nook_data::same::{Same, are_same};
 use std::collections::VecDeque;
 
 impl Known {
-    /// Whether the other counts as this one does from now on.
+    /// Whether the other monitor counts as this one does from now on.
     pub fn counts_alike(&self, other: &Known) -> bool
-        ensures tallies { result ≡ true → self.now.tallies ≡ other.now.tallies }
+        ensures call_effects { result ≡ true → self.now.call_effects ≡ other.now.call_effects }
         ensures counts { result ≡ true → self.now.counts ≡ other.now.counts }
     {
-        self.tally.is_same(&other.tally) && are_tallied_alike(&self.calls, &other.calls)
+        self.effects.is_same(&other.effects) && are_tallied_alike(&self.calls, &other.calls)
     }
 
-    /// Whether the other knows and counts the same.
+    /// Whether the other monitor knows and counts the same.
     pub fn is_alike(&self, other: &Known) -> bool
         ensures { result ≡ true → self.now ≡ other.now }
     {
         self.class == other.class
-            && self.tally.is_same(&other.tally)
+            && self.effects.is_same(&other.effects)
             && self.replay.is_same(&other.replay)
             && self.registers.is_same(&other.registers)
             && are_alike(&self.calls, &other.calls)
@@ -33,9 +33,9 @@ impl Known {
             && are_same(&self.medium, &other.medium)
     }
 
-    /// A digest, and the counts and open calls more; of a call that it is Inside counts only where it is judged still.
+    /// Mixes the counts and open calls into a digest. Whether a call is Inside matters only if it is still judged.
     pub fn digest(&self, digest: u64, judged: bool) -> u64 {
-        let mut digest = mixed_counts(digest, &self.tally);
+        let mut digest = mixed_counts(digest, &self.effects);
         for call in &self.calls {
             digest = mixed(digest, number_of(call, judged));
         }
@@ -44,9 +44,9 @@ impl Known {
 }
 
 impl Call {
-    /// Whether the losses see the other call as this one.
+    /// Whether the losses see both calls alike.
     fn is_tallied_alike(&self, other: &Call) -> bool
-        ensures { result ≡ true → tally_of self.now ≡ tally_of other.now }
+        ensures { result ≡ true → effects_of self.now ≡ effects_of other.now }
     {
         self.number == other.number
             && self.sent == other.sent
@@ -54,10 +54,10 @@ impl Call {
             && self.op.is_same(&other.op)
     }
 
-    /// Whether the contract and the losses see the other call as this one.
+    /// Whether the contract and the losses see both calls alike.
     fn is_alike(&self, other: &Call) -> bool
         ensures opened { result ≡ true → open_of self.now ≡ open_of other.now }
-        ensures tallied { result ≡ true → tally_of self.now ≡ tally_of other.now }
+        ensures tallied { result ≡ true → effects_of self.now ≡ effects_of other.now }
     {
         self.inside == other.inside
             && self.played == other.played
@@ -67,9 +67,9 @@ impl Call {
     }
 }
 
-/// Whether the losses see the other calls as these.
+/// Whether the losses see both lists of calls alike.
 fn are_tallied_alike(calls: &[Call], others: &[Call]) -> bool
-    ensures { result ≡ true → map tally_of calls.now ≡ map tally_of others.now }
+    ensures { result ≡ true → map effects_of calls.now ≡ map effects_of others.now }
 {
     if calls.len() != others.len() {
         return false;
@@ -82,10 +82,10 @@ fn are_tallied_alike(calls: &[Call], others: &[Call]) -> bool
     true
 }
 
-/// Whether the contract and the losses see the other calls as these.
+/// Whether the contract and the losses see both lists of calls alike.
 fn are_alike(calls: &[Call], others: &[Call]) -> bool
     ensures opened { result ≡ true → map open_of calls.now ≡ map open_of others.now }
-    ensures tallied { result ≡ true → map tally_of calls.now ≡ map tally_of others.now }
+    ensures tallied { result ≡ true → map effects_of calls.now ≡ map effects_of others.now }
 {
     if calls.len() != others.len() {
         return false;
@@ -113,8 +113,8 @@ fn are_same_numbers(numbers: &VecDeque<u32>, others: &VecDeque<u32>) -> bool
     true
 }
 
-impl Same for Tally {
-    fn is_same(&self, other: &Tally) -> bool {
+impl Same for LossCounts {
+    fn is_same(&self, other: &LossCounts) -> bool {
         self.sends == other.sends
             && self.samples == other.samples
             && self.busy == other.busy
@@ -132,23 +132,23 @@ impl Same for Tally {
     }
 }
 
-/// A digest, and the counts more.
-fn mixed_counts(digest: u64, tally: &Tally) -> u64 {
+/// Mixes the counts into a digest.
+fn mixed_counts(digest: u64, effects: &LossCounts) -> u64 {
     let counts = [
-        tally.sends,
-        tally.samples,
-        tally.busy,
-        tally.arrived,
-        tally.received,
-        tally.taken,
-        tally.refused,
-        tally.kept,
-        tally.lost,
-        tally.popped,
-        tally.cleared,
-        tally.popped_since,
-        tally.handed_since,
-        tally.reset,
+        effects.sends,
+        effects.samples,
+        effects.busy,
+        effects.arrived,
+        effects.received,
+        effects.taken,
+        effects.refused,
+        effects.kept,
+        effects.lost,
+        effects.popped,
+        effects.cleared,
+        effects.popped_since,
+        effects.handed_since,
+        effects.reset,
     ];
     let mut digest = digest;
     for count in &counts {
@@ -157,7 +157,7 @@ fn mixed_counts(digest: u64, tally: &Tally) -> u64 {
     digest
 }
 
-/// A call's number and, where it is judged still, whether it is Inside, in one number.
+/// A call's number and, if it is still judged, whether it is Inside, as one number.
 fn number_of(call: &Call, judged: bool) -> u64 {
     u64::from(call.number) * 2 + u64::from(judged && call.inside)
 }

@@ -1,9 +1,9 @@
-//! Calls that come and their answers, frames handed up, and arrivals.
+//! Invoked calls and their answers, frames handed up, and arrivals.
 
 ghost use Rattle.std.specs.Prelude.{◌≡◌, ◌∷◌, [], fold, map, OnOk};
 ghost use Rattle.nook_data.specs.Answers.{one_answer};
 ghost use Rattle.promise_defs.specs.Losses.{handed_result, is_busy, is_done, is_received, lost_by, one_if};
-ghost use Rattle.contract_monitor.specs.Calls.{tally_of};
+ghost use Rattle.contract_monitor.specs.Calls.{effects_of};
 ghost use Rattle.contract_monitor.specs.Keeping.{count_answer, count_handed, kept_answered, kept_arrival, kept_enter};
 ghost use Rattle.contract_monitor.specs.Keeping.{kept_invoke, samples_lost, sends_lost, with_counts};
 
@@ -30,37 +30,39 @@ impl Known {
         change_calls(&mut self.calls, call, Change::Entered)
     }
 
-    /// A frame arrived, and the ring kept it or had no room.
+    /// A frame arrived, and the ring took it or had no room.
     pub fn see_arrival(&mut self, frame: &Words, kept: bool) -> Result<(), NoMemory>
         ensures { OnOk result (self.new ≡ kept_arrival frame.now kept self.old) }
     {
-        self.tally.arrived = more(self.tally.arrived, 1)?;
+        self.effects.arrived = more(self.effects.arrived, 1)?;
         if kept {
             self.ring.push_back(frame.copy(self.alloc)?)?;
-            self.tally.kept = more(self.tally.kept, 1)?;
+            self.effects.kept = more(self.effects.kept, 1)?;
         } else {
-            self.tally.lost = more(self.tally.lost, 1)?;
+            self.effects.lost = more(self.effects.lost, 1)?;
         }
         Ok(())
     }
 
-    /// A burst ended, and may have handed a frame up.
+    /// A burst ended, and may have handed up a frame.
     pub fn count_handed(&mut self, end: &End) -> Result<(), NoMemory>
-        ensures { OnOk result (self.new ≡ with_counts (count_handed (handed_result end.now) self.old.counts) self.old) }
+        ensures { OnOk result
+            (self.new ≡ with_counts
+            (count_handed (handed_result end.now) self.old.counts) self.old) }
     {
         let Some(given) = handed_result(end) else {
             return Ok(());
         };
-        self.tally.handed_since = more(self.tally.handed_since, 1)?;
+        self.effects.handed_since = more(self.effects.handed_since, 1)?;
         if given == 0 {
-            self.tally.refused = more(self.tally.refused, 1)?;
+            self.effects.refused = more(self.effects.refused, 1)?;
         } else {
-            self.tally.taken = more(self.tally.taken, 1)?;
+            self.effects.taken = more(self.effects.taken, 1)?;
         }
         Ok(())
     }
 
-    /// Calls are answered: they are counted, and open no more.
+    /// Calls are answered: they are counted, and no longer open.
     pub fn answer_all(&mut self, answers: &[(u32, Answer)]) -> Result<(), NoMemory>
         ensures { OnOk result (self.new ≡ kept_answered answers.now self.old) }
     {
@@ -69,10 +71,10 @@ impl Known {
         Ok(())
     }
 
-    /// Counts answers of calls that are open still.
+    /// LossCounts answers of calls that are still open.
     fn count_answers(&mut self, answers: &[(u32, Answer)]) -> Result<(), NoMemory>
         ensures { OnOk result (self.new ≡ with_counts
-            (fold (count_answer self.old.tallies) self.old.counts answers.now) self.old) }
+            (fold (count_answer self.old.call_effects) self.old.counts answers.now) self.old) }
     {
         for answer in answers {
             self.count_answer(answer.0, &answer.1)?;
@@ -80,7 +82,7 @@ impl Known {
         Ok(())
     }
 
-    /// A call may be answered: then it is counted, and open no more.
+    /// A call may be answered: then it is counted, and no longer open.
     pub fn answer_one(&mut self, call: u32, answer: &Option<Answer>) -> Result<(), NoMemory>
         ensures { OnOk result (self.new ≡ kept_answered (one_answer call answer.now) self.old) }
     {
@@ -90,7 +92,7 @@ impl Known {
         }
     }
 
-    /// A call is answered: it is counted, and open no more.
+    /// A call is answered: it is counted, and no longer open.
     fn answer_call(&mut self, call: u32, answer: &Answer) -> Result<(), NoMemory>
         ensures { OnOk result (self.new ≡ kept_answered ((call, answer.now) ∷ []) self.old) }
     {
@@ -99,17 +101,17 @@ impl Known {
         Ok(())
     }
 
-    /// Counts the answer of a call that is open still.
+    /// LossCounts the answer of a call that is still open.
     fn count_answer(&mut self, call: u32, answer: &Answer) -> Result<(), NoMemory>
         ensures { OnOk result (self.new ≡ with_counts
-            (count_answer self.old.tallies self.old.counts (call, answer.now)) self.old) }
+            (count_answer self.old.call_effects self.old.counts (call, answer.now)) self.old) }
     {
         let sends = lost_sends(&self.calls, call, answer);
         let samples = lost_samples(&self.calls, call, answer);
-        self.tally.sends = more(self.tally.sends, sends)?;
-        self.tally.samples = more(self.tally.samples, samples)?;
-        self.tally.busy = more(self.tally.busy, busy_in(answer))?;
-        self.tally.received = more(self.tally.received, frames_in(answer))?;
+        self.effects.sends = more(self.effects.sends, sends)?;
+        self.effects.samples = more(self.effects.samples, samples)?;
+        self.effects.busy = more(self.effects.busy, busy_in(answer))?;
+        self.effects.received = more(self.effects.received, frames_in(answer))?;
         Ok(())
     }
 }
@@ -141,9 +143,9 @@ fn frames_in(answer: &Answer) -> u64
     }
 }
 
-/// 1 where a Send is answered Done in which no frame was sent.
+/// 1 if a Send that sent no frame is answered Done.
 fn lost_sends(calls: &[Call], number: u32, answer: &Answer) -> u64
-    ensures { result ≡ lost_by sends_lost (map tally_of calls.now) (number, answer.now) }
+    ensures { result ≡ lost_by sends_lost (map effects_of calls.now) (number, answer.now) }
 {
     match find_call(calls, number) {
         Some(call) => {
@@ -157,9 +159,9 @@ fn lost_sends(calls: &[Call], number: u32, answer: &Answer) -> u64
     }
 }
 
-/// What a Send loses that is answered Done.
+/// The number of sends that a call loses if it is answered Done.
 fn sends_lost_by(call: &Call) -> u64
-    ensures { result ≡ sends_lost (tally_of call.now) }
+    ensures { result ≡ sends_lost (effects_of call.now) }
 {
     match &call.op {
         Op::Send { .. } => u64::from(call.sent == 0),
@@ -167,9 +169,9 @@ fn sends_lost_by(call: &Call) -> u64
     }
 }
 
-/// Where a Play is answered Done, its samples that were not played.
+/// The samples of a Play answered Done that were not played.
 fn lost_samples(calls: &[Call], number: u32, answer: &Answer) -> u64
-    ensures { result ≡ lost_by samples_lost (map tally_of calls.now) (number, answer.now) }
+    ensures { result ≡ lost_by samples_lost (map effects_of calls.now) (number, answer.now) }
 {
     match find_call(calls, number) {
         Some(call) => {
@@ -183,9 +185,9 @@ fn lost_samples(calls: &[Call], number: u32, answer: &Answer) -> u64
     }
 }
 
-/// What a Play loses that is answered Done.
+/// The number of samples that a call loses if it is answered Done.
 fn samples_lost_by(call: &Call) -> u64
-    ensures { result ≡ samples_lost (tally_of call.now) }
+    ensures { result ≡ samples_lost (effects_of call.now) }
 {
     match &call.op {
         Op::Play { samples } => (samples.len() as u64).saturating_sub(call.own_played),

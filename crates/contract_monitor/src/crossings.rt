@@ -21,7 +21,7 @@ use nook_data::memory::NoMemory;
 use nook_data::steps::{End, FailCause, Stage};
 
 impl Known {
-    /// The crossing of a burst, and the smallest clause that it breaks.
+    /// Takes the crossing of a burst, and returns the smallest clause that it breaks.
     pub fn see_crossing(
         &mut self,
         call: u32,
@@ -29,7 +29,8 @@ impl Known {
         answer: &Option<Answer>,
         failure: &Option<FailCause>,
     ) -> Result<Option<Clause>, NoMemory>
-        ensures kept { OnOk result (self.new ≡ kept_crossing call end.now answer.now failure.now self.old) }
+        ensures kept { OnOk result
+            (self.new ≡ kept_crossing call end.now answer.now failure.now self.old) }
         ensures broken { IfOk result (λ clause. clause
             ≡ first_broken call self.old.known (crossing_deeds end.now answer.now failure.now)) }
     {
@@ -41,7 +42,7 @@ impl Known {
         Ok(broken)
     }
 
-    /// What a crossing does, but that a failure ends the ReplaySet.
+    /// What a crossing does, except that a failure ends the ReplaySet.
     fn see_end(
         &mut self,
         call: u32,
@@ -50,7 +51,8 @@ impl Known {
         failure: &Option<FailCause>,
     ) -> Result<Option<Clause>, NoMemory>
         ensures kept { OnOk result (self.new
-            ≡ with_known (fold (kept_deed call) self.old.known (crossing_deeds end.now answer.now failure.now)) self.old) }
+            ≡ with_known (fold (kept_deed call) self.old.known
+            (crossing_deeds end.now answer.now failure.now)) self.old) }
         ensures broken { IfOk result (λ clause. clause
             ≡ first_broken call self.old.known (crossing_deeds end.now answer.now failure.now)) }
     {
@@ -82,7 +84,8 @@ impl Known {
     fn see_handed(&mut self, call: u32, moved: &Words) -> Result<Option<Clause>, NoMemory>
         ensures kept { OnOk result (self.new
             ≡ with_known (kept_deed call self.old.known (hands_up moved.now)) self.old) }
-        ensures broken { IfOk result (λ clause. clause ≡ first_broken call self.old.known (hands_up moved.now ∷ [])) }
+        ensures broken { IfOk result
+            (λ clause. clause ≡ first_broken call self.old.known (hands_up moved.now ∷ [])) }
     {
         let due = match self.pending.pop_front() {
             Some(frame) => moved.as_slice() == frame.as_slice(),
@@ -96,7 +99,8 @@ impl Known {
     fn see_reply(&mut self, call: u32, answer: &Option<Answer>) -> Result<Option<Clause>, NoMemory>
         ensures kept { OnOk result (self.new
             ≡ with_known (fold (kept_deed call) self.old.known (reply_deeds answer.now)) self.old) }
-        ensures broken { IfOk result (λ clause. clause ≡ first_broken call self.old.known (reply_deeds answer.now)) }
+        ensures broken { IfOk result
+            (λ clause. clause ≡ first_broken call self.old.known (reply_deeds answer.now)) }
     {
         match answer {
             Some(answer) => self.judge_reply(call, answer),
@@ -108,7 +112,7 @@ impl Known {
         }
     }
 
-    /// The smallest clause that is broken by a call's answer.
+    /// The smallest clause that a call's answer breaks.
     fn judge_reply(&self, call: u32, answer: &Answer) -> Result<Option<Clause>, NoMemory>
         ensures { IfOk result (λ clause. clause
             ≡ reply_broken_of self.now.known (call_of call self.now.known.calls) answer.now) }
@@ -119,7 +123,7 @@ impl Known {
         }
     }
 
-    /// The smallest clause that is broken by the answer of this call.
+    /// The smallest clause that the answer of this call breaks.
     fn judge_answer(&self, call: &Call, answer: &Answer) -> Result<Option<Clause>, NoMemory>
         ensures { IfOk result (λ clause. clause
             ≡ reply_broken self.now.known (open_of call.now) call.now.op answer.now) }
@@ -212,19 +216,19 @@ impl Known {
     fn see_reset(&mut self) -> Result<(), NoMemory>
         ensures { OnOk result (self.new ≡ kept_stage Stage.Reset self.old) }
     {
-        let ring = in_ring(&self.tally);
-        let driver = in_driver(&self.tally);
-        self.tally.cleared = more(self.tally.cleared, ring)?;
-        self.tally.reset = more(more(self.tally.reset, ring)?, driver)?;
-        self.tally.popped_since = 0;
-        self.tally.handed_since = 0;
+        let ring = in_ring(&self.effects);
+        let driver = in_driver(&self.effects);
+        self.effects.cleared = more(self.effects.cleared, ring)?;
+        self.effects.reset = more(more(self.effects.reset, ring)?, driver)?;
+        self.effects.popped_since = 0;
+        self.effects.handed_since = 0;
         self.ring.clear();
         self.registers = defaults_of(self.class);
         Ok(())
     }
 }
 
-/// What an answer Done breaks, unless the clause is kept.
+/// The clause that an answer Done breaks, if it is not kept.
 fn judge_done(kept: bool, clause: Clause, answer: &Answer) -> Option<Clause>
     ensures { result ≡ (if is_done answer.now then unless kept clause else None) }
 {

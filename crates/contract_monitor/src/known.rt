@@ -3,7 +3,7 @@
 ghost use Rattle.std.specs.Prelude.{◌≡◌, ◌-◌, IfOk, OnOk};
 ghost use Rattle.promise_defs.specs.Contract.{deeds_of};
 ghost use Rattle.contract_monitor.specs.Judging.{event_broken, first_broken};
-ghost use Rattle.contract_monitor.specs.Keeping.{kept_after, kept_burst, kept_first, told};
+ghost use Rattle.contract_monitor.specs.Keeping.{kept_after, kept_burst, kept_first, losses_of};
 
 use crate::blocks::{blank_blocks, copy_blocks, copy_queue};
 use crate::calls::{Call, copy_calls};
@@ -21,10 +21,10 @@ use std::alloc::Global;
 use std::collections::VecDeque;
 use std::marker::Model;
 
-/// The counts beside those of each call. `kept`, `popped` and `cleared` are frames that the ring took, that the driver
-/// took from it and that Resets cleared; `popped_since` and `handed_since` count from the last Reset on.
+/// The counts other than those of each call. `kept`, `popped` and `cleared` count frames that the ring took, that the
+/// driver took from it and that Resets cleared; `popped_since` and `handed_since` count since the last Reset.
 #[derive(Clone, Copy)]
-pub struct Tally {
+pub struct LossCounts {
     pub sends: u64,
     pub samples: u64,
     pub busy: u64,
@@ -41,9 +41,9 @@ pub struct Tally {
     pub reset: u64,
 }
 
-/// The medium, ring and registers as the events leave them, the frames popped since the last Load that were not handed
-/// up, the calls that are open, and the counts. Contracts see what is kept of what the definitions of the contract and
-/// of the losses know.
+/// The medium, ring and registers after the events, the frames popped since the last Load and not handed up, the open
+/// calls, and the counts. Contracts see what is kept of the state that the definitions of the contract and of the
+/// losses describe.
 #[derive(Drop)]
 pub struct Known {
     pub alloc: Global,
@@ -51,19 +51,19 @@ pub struct Known {
     pub medium: Vec<Words>,
     pub ring: VecDeque<Words>,
     pub registers: [u32; 4],
-    /// The frames popped since the last Load, after as many as were handed up.
+    /// The frames popped since the last Load, without as many as were handed up.
     pub pending: VecDeque<Words>,
     pub calls: Vec<Call>,
     pub replay: Option<(u32, u32)>,
-    pub tally: Tally,
+    pub effects: LossCounts,
 }
 
 impl Model for Known {
     ghost use Rattle.std.specs.Prelude.{[], map};
-    ghost use Rattle.contract_monitor.specs.Calls.{open_of, tally_of};
-    ghost use Rattle.contract_monitor.specs.Keeping.{Kept};
+    ghost use Rattle.contract_monitor.specs.Calls.{open_of, effects_of};
+    ghost use Rattle.contract_monitor.specs.Keeping.{MonitorState};
 
-    ghost Value = { Kept };
+    ghost Value = { MonitorState };
 
     ghost view = { λ s. record {
       known = record {
@@ -76,30 +76,30 @@ impl Model for Known {
         calls = map open_of s.calls.items;
         replay = s.replay;
       };
-      tallies = map tally_of s.calls.items;
+      call_effects = map effects_of s.calls.items;
       counts = record {
-        sends = s.tally.sends;
-        samples = s.tally.samples;
-        busy = s.tally.busy;
-        arrived = s.tally.arrived;
-        received = s.tally.received;
-        taken = s.tally.taken;
-        refused = s.tally.refused;
-        lost = s.tally.lost;
-        places = record {
-          kept = s.tally.kept;
-          popped = s.tally.popped;
-          cleared = s.tally.cleared;
-          popped_since = s.tally.popped_since;
-          handed_since = s.tally.handed_since;
-          reset = s.tally.reset;
+        sends = s.effects.sends;
+        samples = s.effects.samples;
+        busy = s.effects.busy;
+        arrived = s.effects.arrived;
+        received = s.effects.received;
+        taken = s.effects.taken;
+        refused = s.effects.refused;
+        lost = s.effects.lost;
+        locations = record {
+          kept = s.effects.kept;
+          popped = s.effects.popped;
+          cleared = s.effects.cleared;
+          popped_since = s.effects.popped_since;
+          handed_since = s.effects.handed_since;
+          reset = s.effects.reset;
         };
       };
     } };
 }
 
 impl Known {
-    /// What is known before the first event, of a disk with so many blocks.
+    /// What is known before the first event, with a disk of this many blocks.
     pub fn new(alloc: Global, class: Class, blocks: u32) -> Result<Known, NoMemory>
         ensures { IfOk result (λ known. known ≡ kept_first class blocks) }
     {
@@ -112,7 +112,7 @@ impl Known {
             pending: VecDeque::new(alloc),
             calls: Vec::new(alloc),
             replay: None,
-            tally: Tally {
+            effects: LossCounts {
                 sends: 0,
                 samples: 0,
                 busy: 0,
@@ -133,25 +133,25 @@ impl Known {
 
     /// The numbers of losses and frames.
     pub fn losses(&self) -> Losses
-        ensures { result ≡ told self.now.counts }
+        ensures { result ≡ losses_of self.now.counts }
     {
-        let tally = &self.tally;
+        let effects = &self.effects;
         Losses {
-            sends: tally.sends,
-            samples: tally.samples,
-            busy: tally.busy,
-            arrived: tally.arrived,
-            received: tally.received,
-            queued: tally.taken.saturating_sub(tally.received),
-            ring: in_ring(tally),
-            driver: in_driver(tally),
-            reset: tally.reset,
-            full_ring: tally.lost,
-            full_queue: tally.refused,
+            sends: effects.sends,
+            samples: effects.samples,
+            busy: effects.busy,
+            arrived: effects.arrived,
+            received: effects.received,
+            queued: effects.taken.saturating_sub(effects.received),
+            ring: in_ring(effects),
+            driver: in_driver(effects),
+            reset: effects.reset,
+            full_ring: effects.lost,
+            full_queue: effects.refused,
         }
     }
 
-    /// One event more, and the smallest clause that it breaks.
+    /// Takes one more event, and returns the smallest clause that it breaks.
     pub fn see(&mut self, event: &Event) -> Result<Option<Clause>, NoMemory>
         ensures kept { OnOk result (self.new ≡ kept_after self.old event.now) }
         ensures broken { IfOk result (λ clause. clause ≡ event_broken self.old.known event.now) }
@@ -196,7 +196,7 @@ impl Known {
         }
     }
 
-    /// A burst of a call, and the smallest clause that it breaks; the call is open still.
+    /// Takes a burst of a call, and returns the smallest clause that it breaks; the call is still open.
     fn see_burst(
         &mut self,
         call: u32,
@@ -205,7 +205,8 @@ impl Known {
         answer: &Option<Answer>,
         failure: &Option<FailCause>,
     ) -> Result<Option<Clause>, NoMemory>
-        ensures kept { OnOk result (self.new ≡ kept_burst call acts.now end.now answer.now failure.now self.old) }
+        ensures kept { OnOk result
+            (self.new ≡ kept_burst call acts.now end.now answer.now failure.now self.old) }
         ensures broken { IfOk result (λ clause. clause
             ≡ first_broken call self.old.known (deeds_of acts.now end.now answer.now failure.now)) }
     {
@@ -226,24 +227,24 @@ impl TryCopy for Known {
             pending: copy_queue(alloc, &self.pending)?,
             calls: copy_calls(alloc, &self.calls)?,
             replay: self.replay,
-            tally: self.tally,
+            effects: self.effects,
         })
     }
 }
 
-/// Frames in the ring.
-pub fn in_ring(tally: &Tally) -> u64
-    ensures { result ≡ tally.now.kept - tally.now.popped - tally.now.cleared }
+/// The frames in the ring.
+pub fn in_ring(effects: &LossCounts) -> u64
+    ensures { result ≡ effects.now.kept - effects.now.popped - effects.now.cleared }
 {
-    tally
+    effects
         .kept
-        .saturating_sub(tally.popped)
-        .saturating_sub(tally.cleared)
+        .saturating_sub(effects.popped)
+        .saturating_sub(effects.cleared)
 }
 
-/// Frames that the driver popped and did not hand up.
-pub fn in_driver(tally: &Tally) -> u64
-    ensures { result ≡ tally.now.popped_since - tally.now.handed_since }
+/// The frames that the driver popped and did not hand up.
+pub fn in_driver(effects: &LossCounts) -> u64
+    ensures { result ≡ effects.now.popped_since - effects.now.handed_since }
 {
-    tally.popped_since.saturating_sub(tally.handed_since)
+    effects.popped_since.saturating_sub(effects.handed_since)
 }

@@ -1,4 +1,4 @@
-//! The monitor: events in, the first break and the losses out.
+//! The monitor: it takes events, and finds the first break and the losses.
 
 ghost use Rattle.std.specs.Prelude.{◌≡◌, ◌∷◌, ◌++◌, [], ℕ, List, IfOk, IfSome, None, OnErr, OnOk, fold, true};
 ghost use Rattle.std.specs.Option.{ForSome};
@@ -6,8 +6,8 @@ ghost use Rattle.nook_data.specs.declared.classes.Class.{Class};
 ghost use Rattle.nook_data.specs.declared.steps.Event.{Event};
 ghost use Rattle.promise_defs.specs.Contract.{first_break, known_after, known_first};
 ghost use Rattle.promise_defs.specs.Losses.{losses};
-ghost use Rattle.contract_monitor.specs.Keeping.{kept_after, told};
-ghost use Rattle.contract_monitor.specs.Monitors.{JudgeAlike, StandsFor, after_event, break_of, broken_clause};
+ghost use Rattle.contract_monitor.specs.Keeping.{kept_after, losses_of};
+ghost use Rattle.contract_monitor.specs.Monitors.{JudgeAlike, Represents, after_event, break_of, broken_clause};
 ghost use Rattle.contract_monitor.specs.Monitors.{or_break};
 ghost use Rattle.contract_monitor.specs.Wrong.{first_wrong};
 
@@ -26,12 +26,12 @@ use std::alloc::Global;
 use std::marker::Model;
 use std::mem;
 
-/// Judges a part's driver and counts what was lost, event by event. It keeps no event. Contracts see what it knows
-/// by the definitions of the contract and of the losses; `StandsFor` tells for which lists of events it stands.
+/// Judges a part's driver and counts what was lost, event by event. It stores no event. Contracts see what it knows by
+/// the definitions of the contract and of the losses; `Represents` says which lists of events it represents.
 #[derive(Drop)]
 pub struct Monitor {
     known: Known,
-    /// The same as `known`, for the next event to be tried on; none where it has to be copied anew.
+    /// An equal copy of `known` on which to try the next event; none if it has to be copied again.
     spare: Option<Known>,
     seen: u64,
     broken: Option<Break>,
@@ -49,10 +49,10 @@ impl Model for Monitor {
 }
 
 impl Monitor {
-    /// A monitor of a part of this class, with a disk of so many blocks where it is a block part. It stands for the
+    /// A monitor of a part of this class, with a disk of this many blocks if it is a block part. It represents the
     /// empty list of events.
     pub fn new(alloc: Global, class: Class, blocks: u32) -> Result<Monitor, NoMemory>
-        ensures { IfOk result (λ monitor. StandsFor class blocks [] monitor) }
+        ensures { IfOk result (λ monitor. Represents class blocks [] monitor) }
     {
         Ok(Monitor {
             known: Known::new(alloc, class, blocks)?,
@@ -62,15 +62,15 @@ impl Monitor {
         })
     }
 
-    /// The monitor that has seen these events, in order. It wants half the time and memory that a `see` for each of
-    /// them does, since no event is seen twice: a monitor that wants memory is given up.
+    /// The monitor that has seen these events, in order. It needs half the time and memory of a `see` for each of them,
+    /// since no event is seen twice: a monitor that runs out of memory is dropped.
     pub fn of_events(
         alloc: Global,
         class: Class,
         blocks: u32,
         events: &[Event],
     ) -> Result<Monitor, NoMemory>
-        ensures { IfOk result (λ monitor. StandsFor class blocks events.now monitor) }
+        ensures { IfOk result (λ monitor. Represents class blocks events.now monitor) }
     {
         let mut monitor = Monitor::new(alloc, class, blocks)?;
         for event in events {
@@ -79,10 +79,12 @@ impl Monitor {
         Ok(monitor)
     }
 
-    /// One event more; after NoMemory the monitor is of no use.
+    /// Takes one more event; after NoMemory the monitor is useless.
     pub fn see_or_give_up(&mut self, event: &Event) -> Result<(), NoMemory>
-        ensures { OnOk result ((class : Class) (size : ℕ) (events : List Event) → StandsFor class size events self.old
-            → StandsFor class size (events ++ event.now ∷ []) self.new) }
+        ensures { OnOk result
+            ((class : Class) (size : ℕ) (events : List Event)
+            → Represents class size events self.old
+            → Represents class size (events ++ event.now ∷ []) self.new) }
     {
         let seen = more(self.seen, 1)?;
         self.spare = None;
@@ -92,12 +94,13 @@ impl Monitor {
         Ok(())
     }
 
-    /// One event more. Where the monitor stood for a list of events, it stands for that list and the event. After
-    /// NoMemory it is as it was. A count that has no room in 64 bits is refused as memory is.
+    /// Takes one more event. If the monitor represented a list of events, it now represents that list with the event.
+    /// NoMemory leaves it as it was. A count that does not fit in 64 bits is refused as if memory had run out.
     pub fn see(&mut self, event: &Event) -> Result<(), NoMemory>
         ensures after { OnOk result (self.new ≡ after_event event.now self.old) }
-        ensures stands { OnOk result ((class : Class) (size : ℕ) (events : List Event)
-            → StandsFor class size events self.old → StandsFor class size (events ++ event.now ∷ []) self.new) }
+        ensures represents { OnOk result ((class : Class) (size : ℕ) (events : List Event)
+            → Represents class size events self.old
+            → Represents class size (events ++ event.now ∷ []) self.new) }
         ensures err { OnErr result (self.new ≡ self.old) }
     {
         let seen = more(self.seen, 1)?;
@@ -113,17 +116,18 @@ impl Monitor {
     /// The first event that breaks a clause of the class's contract, with the smallest clause that it breaks.
     pub fn first_break(&self) -> Option<Break>
         ensures value { result ≡ self.now.broken }
-        ensures stands { (class : Class) (size : ℕ) (events : List Event) → StandsFor class size events self.now
+        ensures represents { (class : Class) (size : ℕ) (events : List Event)
+            → Represents class size events self.now
             → result ≡ first_break class size events }
     {
         self.broken
     }
 
-    /// Of an event that the monitor has not seen, the first deed that breaks a clause of the class's contract; `None`
-    /// where the event breaks none. It is told where no event before broke a clause.
+    /// The first deed of an event not yet seen that breaks a clause of the class's contract; `None` if the event breaks
+    /// none. This holds if no earlier event broke a clause.
     pub fn first_wrong(&self, event: &Event) -> Result<Option<WrongDeed>, NoMemory>
         ensures { IfOk result (λ wrong. (class : Class) (size : ℕ) (events : List Event)
-            → StandsFor class size events self.now → first_break class size events ≡ None
+            → Represents class size events self.now → first_break class size events ≡ None
             → wrong ≡ first_wrong (fold known_after (known_first class size) events) event.now) }
     {
         self.known.first_wrong(event)
@@ -131,8 +135,9 @@ impl Monitor {
 
     /// What was lost, and where frames went.
     pub fn losses(&self) -> Losses
-        ensures value { result ≡ told self.now.kept.counts }
-        ensures stands { (class : Class) (size : ℕ) (events : List Event) → StandsFor class size events self.now
+        ensures value { result ≡ losses_of self.now.kept.counts }
+        ensures represents { (class : Class) (size : ℕ) (events : List Event)
+            → Represents class size events self.now
             → result ≡ losses events }
     {
         self.known.losses()
@@ -145,8 +150,8 @@ impl Monitor {
         self.broken.map(|broken| broken.clause)
     }
 
-    /// Whether the other monitor judges and counts as this one does from now on, but for the numbers of events. One that
-    /// does may be denied.
+    /// Whether the other monitor judges and counts as this one does from now on, except for event numbers. The answer
+    /// may be no even if it does.
     pub fn judges_alike(&self, other: &Monitor) -> bool
         ensures { result ≡ true → JudgeAlike self.now other.now }
     {
@@ -159,7 +164,7 @@ impl Monitor {
         }
     }
 
-    /// A digest, and more numbers that are the same for monitors that judge and count alike from now on.
+    /// Mixes into a digest numbers that are the same for monitors that judge and count alike from now on.
     pub fn digest(&self, digest: u64) -> u64 {
         match self.broken {
             Some(broken) => self
@@ -181,7 +186,7 @@ impl TryCopy for Monitor {
     }
 }
 
-/// What is known once more: the spare, or a copy.
+/// A second copy of what is known: the spare one, or a new one.
 fn same_again(known: &Known, spare: Option<Known>) -> Result<Known, NoMemory>
     requires { ForSome spare (λ same. same ≡ known.now) }
     ensures { IfOk result (λ same. same ≡ known.now) }
@@ -192,7 +197,7 @@ fn same_again(known: &Known, spare: Option<Known>) -> Result<Known, NoMemory>
     }
 }
 
-/// What is known with this event too; none where memory was wanting.
+/// What is known with this event included; none if memory ran out.
 fn caught_up(before: Known, event: &Event) -> Option<Known>
     ensures { IfSome result (λ known. known ≡ kept_after before event.now) }
 {
@@ -203,7 +208,7 @@ fn caught_up(before: Known, event: &Event) -> Option<Known>
     }
 }
 
-/// The first break, where event number `event` may be it.
+/// The first break, if event number `event` may be the first.
 fn or_break(broken: Option<Break>, event: u64, clause: Option<Clause>) -> Option<Break>
     ensures { result ≡ or_break broken (break_of event clause) }
 {

@@ -60,7 +60,7 @@ fn sends(frame: &[u32], op: &Op) -> bool
     }
 }
 
-/// Whether the call with a number is open and a Send of just this frame.
+/// Whether the call with a number is open and is a Send of exactly this frame.
 pub fn is_send_of(frame: &[u32], calls: &[Call], number: u32) -> bool
     ensures { result ≡ is_send_of frame.now (call_of number (map open_of calls.now)) }
 {
@@ -70,7 +70,7 @@ pub fn is_send_of(frame: &[u32], calls: &[Call], number: u32) -> bool
     }
 }
 
-/// Whether a frame was sent already in the bursts of the call with a number.
+/// Whether a frame was already sent in the bursts of the call with a number.
 pub fn had_frame(calls: &[Call], number: u32) -> bool
     ensures { result ≡ had_frame (call_of number (map open_of calls.now)) }
 {
@@ -80,7 +80,7 @@ pub fn had_frame(calls: &[Call], number: u32) -> bool
     }
 }
 
-/// Whether a word is the next one of a Play of which so many samples were played.
+/// Whether a word is the next one of a Play of which `played` samples were played.
 fn is_next(op: &Op, played: u64, word: u32) -> bool
     ensures { result ≡ is_next op.now played word }
 {
@@ -115,7 +115,7 @@ fn sets(key: u32, value: u32, op: &Op) -> bool
     }
 }
 
-/// Whether a call is Inside and a Set of the key and value.
+/// Whether a call is Inside and is a Set of the key and value.
 fn is_setting(key: u32, value: u32, call: &Call) -> bool
     ensures { result ≡ is_setting key value (open_of call.now) }
 {

@@ -13,11 +13,11 @@ use nook_data::machine::Act;
 use nook_data::memory::NoMemory;
 use nook_data::steps::{End, Event, FailCause};
 
-/// A deed of a burst that breaks a clause of the class's contract: how many of the burst's deeds come before it, and the
+/// A deed of a burst that breaks a clause of the class's contract: the number of the burst's deeds before it, and the
 /// smallest clause that it breaks.
 #[derive(Clone, Copy)]
 pub struct WrongDeed {
-    pub place: u64,
+    pub index: u64,
     pub clause: Clause,
 }
 
@@ -42,7 +42,7 @@ impl Known {
         }
     }
 
-    /// The first deed of a burst of a call that breaks a clause. What is known is of no use from then on.
+    /// The first deed of a burst of a call that breaks a clause. What is known is useless afterwards.
     fn wrong_in_burst(
         &mut self,
         call: u32,
@@ -63,28 +63,30 @@ impl Known {
         }
     }
 
-    /// The first act of a burst of a call that breaks a clause. Where none does, all of them are known.
+    /// The first act of a burst of a call that breaks a clause. If none does, all of them are now known.
     fn wrong_act(&mut self, call: u32, acts: &[Act]) -> Result<Option<WrongDeed>, NoMemory>
-        ensures wrong { IfOk result (λ wrong. wrong ≡ wrong_among call self.old.known (map acted acts.now)) }
-        ensures kept { IfOk result (λ wrong. wrong ≡ None → self.new ≡ fold (kept_act call) self.old acts.now) }
+        ensures wrong { IfOk result
+            (λ wrong. wrong ≡ wrong_among call self.old.known (map acted acts.now)) }
+        ensures kept { IfOk result
+            (λ wrong. wrong ≡ None → self.new ≡ fold (kept_act call) self.old acts.now) }
     {
-        let mut place = 0_u64;
+        let mut index = 0_u64;
         for act in acts {
             if let Some(clause) = self.see_next(call, act)? {
-                return Ok(Some(WrongDeed { place, clause }));
+                return Ok(Some(WrongDeed { index, clause }));
             }
-            place += 1;
+            index += 1;
         }
         Ok(None)
     }
 }
 
-/// A deed with so many others before it, where it breaks a clause.
-fn wrong_at(place: u64, clause: Option<Clause>) -> Option<WrongDeed>
-    ensures { result ≡ wrong_at place clause }
+/// A deed with this many deeds before it, if it breaks a clause.
+fn wrong_at(index: u64, clause: Option<Clause>) -> Option<WrongDeed>
+    ensures { result ≡ wrong_at index clause }
 {
     match clause {
-        Some(clause) => Some(WrongDeed { place, clause }),
+        Some(clause) => Some(WrongDeed { index, clause }),
         None => None,
     }
 }

@@ -1,4 +1,4 @@
-//! A desk over the generated disk, whose calls go on where memory was wanting: tests in a crate of their own.
+//! Tests of a desk over the generated disk, whose calls continue after memory ran out; in a separate crate.
 #![tactic(auto)]
 
 #[cfg(test)]

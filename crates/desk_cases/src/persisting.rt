@@ -1,4 +1,4 @@
-//! Calls that are made again, or gone on with, until they are answered.
+//! Calls that are repeated, or resumed, until they are answered.
 
 ghost use Rattle.std.specs.Prelude.{◌<◌, IfSome};
 ghost use Rattle.part_server.specs.Desk.{IsDeskSeat};
@@ -13,18 +13,18 @@ use scenario_gen::generate;
 use std::alloc::Global;
 use std::sync::Wait;
 
-/// How often a call is made again or gone on with at most.
+/// The most times that a call is repeated or resumed.
 const MOST_TRIES: u32 = 10;
 
-/// The receipt of a call, and whether memory was wanting while the call was open.
+/// The receipt of a call, and whether memory ran out while the call was open.
 #[derive(Drop)]
 pub struct Persisted {
     pub receipt: Receipt,
-    pub was_wanting: bool,
+    pub was_no_memory: bool,
 }
 
-/// A desk for the generated disk, whose driver is trapped in its fifth burst, and the desk's first seat. None where memory
-/// was wanting.
+/// A desk for the generated disk, whose driver is trapped in its fifth burst, and the desk's first seat. None if memory
+/// ran out.
 pub fn desk_of(alloc: Global) -> Option<(PartDesk, DeskSeat)>
     ensures { IfSome result (λ made. IsDeskSeat made.0 made.1) }
 {
@@ -41,9 +41,8 @@ pub fn desk_of(alloc: Global) -> Option<(PartDesk, DeskSeat)>
     PartDesk::new(alloc, part).ok()
 }
 
-/// Makes a call of thread 0, and goes on with it wherever memory is wanting: with the call that is open then, or with a
-/// new one where none is. None where that never ends, another call than the open one is answered, or a refusal has
-/// another cause.
+/// Makes a call of thread 0. If memory runs out, it resumes the call if that is open, and makes a new one otherwise.
+/// None if that never ends, if another call than the open one is answered, or if a refusal has another cause.
 pub fn call_until_answered<R: Wait>(
     rt: &R,
     alloc: Global,
@@ -59,7 +58,7 @@ pub fn call_until_answered<R: Wait>(
             Ok(receipt) => {
                 return Some(Persisted {
                     receipt,
-                    was_wanting: false,
+                    was_no_memory: false,
                 });
             }
             Err(DeskRefused::NoMemory { call: None }) => {}
@@ -72,7 +71,7 @@ pub fn call_until_answered<R: Wait>(
     None
 }
 
-/// Goes on with thread 0's open call, which has this number.
+/// Resumes thread 0's open call, which has this number, until it is answered.
 fn resume_until_answered<R: Wait>(
     rt: &R,
     alloc: Global,
@@ -88,7 +87,7 @@ fn resume_until_answered<R: Wait>(
             Ok(receipt) if receipt.call == open => {
                 return Some(Persisted {
                     receipt,
-                    was_wanting: true,
+                    was_no_memory: true,
                 });
             }
             Err(DeskRefused::NoMemory { call: None }) => {}
@@ -99,7 +98,7 @@ fn resume_until_answered<R: Wait>(
     None
 }
 
-/// Settles a desk, again and again where memory is wanting. Tells whether it settled.
+/// Settles a desk, and tries again if memory runs out. Returns whether it settled.
 pub fn settle_at_last<R: Wait>(rt: &R, desk: &PartDesk, seat: &mut DeskSeat) -> bool
     requires { IsDeskSeat desk.now seat.old }
     ensures { IsDeskSeat desk.now seat.new }

@@ -1,5 +1,5 @@
-//! A fresh desk, and three calls of which one is cut by a failure. `checks/desk_memory` runs these with each allocation
-//! refused in its turn; none of them may fail then, and a desk that is not made has nothing to show.
+//! A fresh desk, and three calls, one of which a failure interrupts. `checks/desk_memory` runs these tests with each
+//! allocation refused in turn; none of them may fail then, and a desk that is not made has nothing to show.
 
 ghost use Rattle.part_server.specs.Desk.{IsDeskSeat};
 
@@ -41,8 +41,8 @@ fn is_boot(events: &[Event]) -> bool {
 }
 
 /// Whether an event is this stage.
-fn is_stage(event: &Event, wanted: Stage) -> bool {
-    matches!(event, Event::Stage { stage, .. } if *stage == wanted)
+fn is_stage(event: &Event, expected: Stage) -> bool {
+    matches!(event, Event::Stage { stage, .. } if *stage == expected)
 }
 
 /// Whether an event is a burst of the shadow's context.
@@ -50,7 +50,7 @@ fn is_burst_of_shadow(event: &Event) -> bool {
     matches!(event, Event::Burst { context: 16, .. })
 }
 
-/// Before its part booted a desk has no open call. It settles with the boot's five events.
+/// Before its part has booted, a desk has no open call. It settles with the boot's five events.
 #[test]
 fn a_fresh_desk_settles_with_its_boot(rt: HostRuntime) -> Result<(), Fail> {
     let Some((desk, mut seat)) = desk_of(rt.alloc()) else {
@@ -69,14 +69,14 @@ fn a_fresh_desk_settles_with_its_boot(rt: HostRuntime) -> Result<(), Fail> {
     Ok(())
 }
 
-/// What the invocations and the answers of a journal are.
+/// How many invocations and answers a journal has.
 #[derive(Clone, Copy, Debug, PartialEq, Eq)]
 struct Counts {
     invocations: u32,
     answers: u32,
 }
 
-/// The invocations and the answers in a journal of calls that no shadow answers.
+/// Counts the invocations and the answers in a journal of calls that no shadow answers.
 fn counts_of(events: &[Event]) -> Counts {
     let mut counts = Counts {
         invocations: 0,
@@ -122,24 +122,24 @@ fn make_calls<R: Wait>(
     Some([wrote, got, again])
 }
 
-/// The places of a call's invocation and of its answer.
-fn places(call: &Persisted) -> (u64, u64) {
+/// The numbers of the events that invoke and answer a call.
+fn indices(call: &Persisted) -> (u64, u64) {
     (call.receipt.at_invoke, call.receipt.at_reply)
 }
 
-/// Whether the three calls were answered as they are with memory enough, at the same places.
+/// Whether the three calls were answered as with enough memory, in events with the same numbers.
 fn are_answered(calls: &[Persisted; 3]) -> bool {
     let [wrote, got, again] = calls;
-    places(wrote) == (1, 8)
+    indices(wrote) == (1, 8)
         && matches!(wrote.receipt.answer, Answer::Done)
-        && places(got) == (9, 11)
+        && indices(got) == (9, 11)
         && words_in(&got.receipt.answer) == [1; 16].as_slice()
-        && places(again) == (12, 24)
+        && indices(again) == (12, 24)
         && matches!(again.receipt.answer, Answer::Done)
 }
 
-/// The second write is cut in burst 5 and is entered again behind the recovery. Each call is invoked once and answered
-/// once, at the places where it is with memory enough: a refusal adds no event.
+/// The second write is interrupted in burst 5 and enters the driver again after the recovery. Each call is invoked once
+/// and answered once, in the events with the same numbers as with enough memory: a refusal adds no event.
 #[test]
 fn each_call_is_answered_once(rt: HostRuntime) -> Result<(), Fail> {
     let alloc = rt.alloc();
@@ -161,7 +161,7 @@ fn each_call_is_answered_once(rt: HostRuntime) -> Result<(), Fail> {
             answers: 3
         }
     );
-    if calls.iter().any(|call| call.was_wanting) {
+    if calls.iter().any(|call| call.was_no_memory) {
         println!(rt; "a call that was open was gone on with")?;
     }
     Ok(())

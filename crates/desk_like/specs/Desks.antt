@@ -13,15 +13,15 @@ use Rattle.nook_data.specs.declared.calls.Op.{Op}
 use Rattle.nook_data.specs.declared.scenario.PartSpec.{PartSpec}
 use Rattle.nook_data.specs.declared.desks.Receipt.{Receipt}
 use Rattle.part_defs.specs.Log.{call_of_thread}
-use Rattle.nook_data.specs.Places.{at_number}
+use Rattle.nook_data.specs.Numbered.{at_number}
 use Rattle.nook_data.specs.Answers.{answer_at}
 use Rattle.part_defs.specs.Runs.{state_of}
 use Rattle.part_defs.specs.State.{PartState}
 use Rattle.shares.specs.Shares.{IsWhole, Share, half}
 
--- What a seat knows: a beginning of its part's journal, the places in the journal of the events that were added through
--- it (counted from 1), its share of the desk (the first seat has the whole, and no two seats share a point), the stamps
--- of the events that it has seen, by one clock over all desks, and the time of its own clock.
+-- What a seat knows: a prefix of its part's journal, the numbers (from 1) of the events that were added through it, its
+-- share of the desk (the first seat has the whole, and no two seats share a point), the stamps of the events that it
+-- has seen, by one clock over all desks, and its clock's time.
 pub record DeskView : Type 0 where
   pub seen : List Event
   pub made : List ℕ
@@ -33,18 +33,18 @@ pub record DeskView : Type 0 where
 abbrev pub IsAlone : DeskView → Type 0
 IsAlone v = IsWhole v.share
 
--- what is so of every seat between two calls: what was added through it lies in what it has seen, and a seat that is
--- the only one added all of that, itself or by the seats that it took in
+-- what holds for every seat between two calls: what was added through it is in what it has seen, and a seat that is the
+-- only one added all of that, itself or through the seats that were joined into it
 pub record Accounts (v : DeskView) : Type 0 where
-  pub within : All (λ place. (0 < place) × (place ≤ length v.seen)) v.made
-  pub all : IsAlone v → (place : ℕ) → 0 < place → place ≤ length v.seen → Contains v.made place
+  pub within : All (λ position. (0 < position) × (position ≤ length v.seen)) v.made
+  pub all : IsAlone v → (position : ℕ) → 0 < position → position ≤ length v.seen → Contains v.made position
 
--- ---- events and their places
+-- ---- events and their numbers
 
--- the event at a place
-pub record IsAt (seen : List Event) (place : ℕ) (Is : Event → Type 0) : Type 0 where
+-- the event with this number has this property
+pub record IsAt (seen : List Event) (position : ℕ) (Is : Event → Type 0) : Type 0 where
   pub event : Event
-  pub there : at_number place seen ≡ Some event
+  pub there : at_number position seen ≡ Some event
   pub is : Is event
 
 abbrev pub IsInvoke : ℕ → ℕ → Op → Event → Type 0
@@ -65,35 +65,35 @@ IsOther (event.Arrive frame kept) = ⊥
 IsOther _ = Unit {0}
 
 abbrev pub AreOthers : List Event → List ℕ → Type 0
-AreOthers seen places = All (λ place. IsAt seen place IsOther) places
+AreOthers seen numbers = All (λ position. IsAt seen position IsOther) numbers
 
--- the places rise, each above the last
+-- the numbers rise: each is larger than the one before
 abbrev pub IsRisingFrom : ℕ → List ℕ → Type 0
 IsRisingFrom last [] = Unit {0}
-IsRisingFrom last (place ∷ places) = (last < place) × IsRisingFrom place places
+IsRisingFrom last (position ∷ numbers) = (last < position) × IsRisingFrom position numbers
 
--- ---- what calls do to what a seat knows
+-- ---- how calls change what a seat knows
 
--- a seat has seen more, and these are the places of what was added through it; what it has seen more was all added
--- through it where it is the only seat
-pub record Adds (old new : DeskView) (places : List ℕ) : Type 0 where
+-- a seat has seen more, and these are the numbers of the events that were added through it; if it is the only seat, all
+-- the events that are new to it were added through it
+pub record Adds (old new : DeskView) (numbers : List ℕ) : Type 0 where
   pub seen : IsPrefix old.seen new.seen
-  pub made : new.made ≡ old.made ++ places
-  pub rising : IsRisingFrom (length old.seen) places
+  pub made : new.made ≡ old.made ++ numbers
+  pub rising : IsRisingFrom (length old.seen) numbers
   pub share : new.share ≡ old.share
-  pub own : IsAlone old → (place : ℕ) → length old.seen < place → place ≤ length new.seen → Contains places place
+  pub own : IsAlone old → (position : ℕ) → length old.seen < position → position ≤ length new.seen → Contains numbers position
 
 -- only events that are neither an invocation nor an arrival were added
 pub record Waits (old new : DeskView) : Type 0 where
-  pub places : List ℕ
-  pub adds : Adds old new places
-  pub others : AreOthers new.seen places
+  pub numbers : List ℕ
+  pub adds : Adds old new numbers
+  pub others : AreOthers new.seen numbers
 
--- nothing was added
+-- nothing was added through the seat
 abbrev pub AddsNothing : DeskView → DeskView → Type 0
 AddsNothing old new = Adds old new []
 
--- one invocation was added first, at a place behind all that was seen, and then others
+-- one invocation was added first, after all that was seen, and then other events
 pub record Invokes (old new : DeskView) (call thread : ℕ) (op : Op) (at_invoke : ℕ) : Type 0 where
   pub others : List ℕ
   pub adds : Adds old new (at_invoke ∷ others)
@@ -102,7 +102,7 @@ pub record Invokes (old new : DeskView) (call thread : ℕ) (op : Op) (at_invoke
 
 -- ---- receipts
 
--- a receipt of an operation of a thread: its call was invoked and answered so
+-- a receipt for a thread's operation: its call was invoked and got this answer
 pub record IsReceipt (seen : List Event) (thread : ℕ) (op : Op) (receipt : Receipt) : Type 0 where
   pub invoked : IsAt seen receipt.at_invoke (IsInvoke receipt.call thread op)
   pub answered : IsAt seen receipt.at_reply (IsReply receipt.call receipt.answer)
@@ -124,7 +124,7 @@ HasNoneOpen p thread = call_of_thread thread p.log.pending ≡ None
 
 -- ---- the calls
 
--- how a call for an operation of a thread ends
+-- how a call for a thread's operation ends
 abbrev pub CallEnds : PartSpec → DeskView → DeskView → ℕ → Op → Result Receipt DeskRefused → Type 0
 CallEnds spec old new thread op (Ok receipt) =
     Invokes old new receipt.call thread op receipt.at_invoke × IsReceipt new.seen thread op receipt
@@ -143,7 +143,7 @@ pub record IsResumed (old new : DeskView) (thread : ℕ) (receipt : Receipt) : T
   pub known : IsReceipt new.seen thread op receipt
   pub later : length old.seen < receipt.at_reply
 
--- how going on with a thread's open call ends
+-- how resuming a thread's open call ends
 abbrev pub ResumeEnds : PartSpec → DeskView → DeskView → ℕ → Result Receipt DeskRefused → Type 0
 ResumeEnds spec old new thread (Ok receipt) = Waits old new × IsResumed old new thread receipt
 ResumeEnds spec old new thread (Err refused.NoOpenCall) = AddsNothing old new × HasNoneOpen (state_seen spec new) thread
@@ -152,28 +152,28 @@ ResumeEnds spec old new thread (Err (refused.NoMemory (Some call))) =
     Waits old new × HasOpen (state_seen spec new) thread call
 ResumeEnds spec old new thread (Err _) = ⊥
 
--- how the arrival of a frame ends; the answer is whether the device kept it
+-- how the arrival of a frame ends; the result is whether the device's ring had room for it
 abbrev pub ArriveEnds : PartSpec → DeskView → DeskView → List ℕ → Result Bool DeskRefused → Type 0
 ArriveEnds spec old new frame (Ok kept) =
-    (place : ℕ) × Adds old new (place ∷ []) × IsAt new.seen place (IsArrive frame kept)
+    (position : ℕ) × Adds old new (position ∷ []) × IsAt new.seen position (IsArrive frame kept)
 ArriveEnds spec old new frame (Err refused.TooManyArrivals) =
     AddsNothing old new × ((state_seen spec new).arrived ≡ MOST_CALLS)
 ArriveEnds spec old new frame (Err (refused.NoMemory None)) = AddsNothing old new
 ArriveEnds spec old new frame (Err _) = ⊥
 
--- ---- seats that are made and taken in
+-- ---- seats that are split and joined
 
 -- a seat that gave half of its share to a new one
 abbrev pub halved_view : DeskView → DeskView
 halved_view v = record v { share = half false v.share }
 
--- a new seat, split from another: it has seen the same at the same time, nothing was added through it, and it has the
--- other half of the share
+-- a new seat, split from another: it has seen the same and its clock has the same time, nothing was added through it,
+-- and it has the other half of the share
 abbrev pub new_view : DeskView → DeskView
 new_view v = record { seen = v.seen; made = []; share = half true v.share; stamps = v.stamps; clock = v.clock }
 
--- a seat took another in: it has seen the longer of the two lists, which both begin, and the places and shares are
--- those of both
+-- another seat was joined into a seat: it has seen the longer of the two lists, of which both are prefixes, and has the
+-- event numbers and the shares of both
 pub record Joins (old other new : DeskView) : Type 0 where
   pub seen : IsPrefix old.seen new.seen
   pub other_seen : IsPrefix other.seen new.seen

@@ -1,8 +1,8 @@
-//! What a desk promises its callers: the trait over which workers run.
+//! What a desk promises its callers: the trait that workers use.
 //!
-//! A desk is where threads call a part. Each caller has a seat, and contracts see what the seat knows: a beginning of
-//! the part's journal, the places of the events that were added through the seat, its share of the desk, and a clock
-//! by which the events of all desks can be put into one order.
+//! Threads call a part through a desk. Each caller has a seat, and contracts see what the seat knows: a prefix of the
+//! part's journal, the numbers of the events that were added through the seat, its share of the desk, and a clock by
+//! which the events of all desks can be put into one order.
 #![tactic(auto)]
 
 ghost use Rattle.desk_like.specs.Desks.{Accounts, ArriveEnds, CallEnds, DeskView, Joins, halved_view, new_view};
@@ -21,15 +21,15 @@ use nook_data::lists::Words;
 use std::alloc::Global;
 use std::sync::Wait;
 
-/// A part behind a desk. Threads share the desk by reference, and each works through a seat of its own.
+/// A part that threads call through a desk. They share the desk by reference, and each uses its own seat.
 ///
-/// Each call is handed a seat of this desk. No contract says that a call which waits ever returns, or in which order
+/// Each call takes a seat of this desk. No contract promises that a waiting call ever returns, or in which order
 /// callers get their turn.
 pub trait DeskLike: Sync {
-    /// A caller's place at the desk.
+    /// A caller's handle to the desk.
     type Seat: Send + Drop;
 
-    // the part that the desk serves, whose seats are its own, and what a seat knows
+    // the part that the desk serves, which seats belong to the desk, and what a seat knows
     ghost spec: { Self → PartSpec };
 
     ghost is_seat: { Self → Self.Seat → Type 0 };
@@ -38,9 +38,9 @@ pub trait DeskLike: Sync {
 
     /// Invokes an operation for a thread below 16 and waits until it is answered, by itself or by another caller.
     ///
-    /// `OpenCall` comes exactly where the thread has an open call when it would invoke, and `TooManyCalls` exactly
-    /// where the part has 100,000 calls then; both add nothing, as does `NoMemory` that names no call. `NoMemory` that
-    /// names a call leaves it invoked and open.
+    /// It returns `OpenCall` exactly if the thread has an open call when it is about to invoke, and `TooManyCalls`
+    /// exactly if the part has 100,000 calls then. Both add nothing, and neither does a `NoMemory` that names no call.
+    /// A `NoMemory` that names a call leaves it invoked and open.
     fn call<R: Wait>(
         &self,
         rt: &R,
@@ -58,9 +58,9 @@ pub trait DeskLike: Sync {
         ensures clocked { Clocked (view seat.new) }
         ensures ticks { Ticks (view seat.old) (view seat.new) };
 
-    /// Hands a frame of 1 to 64 words to a network part. Tells whether the device's ring kept it.
+    /// Hands a frame of 1 to 64 words to a network part. Returns whether the device's ring had room for it.
     ///
-    /// `TooManyArrivals` comes exactly where the part has 100,000 arrivals by then. A refusal adds nothing.
+    /// It returns `TooManyArrivals` exactly if the part has 100,000 arrivals by then. A refusal adds nothing.
     fn arrive<R: Wait>(
         &self,
         rt: &R,
@@ -79,7 +79,7 @@ pub trait DeskLike: Sync {
         ensures clocked { Clocked (view seat.new) }
         ensures ticks { Ticks (view seat.old) (view seat.new) };
 
-    /// Makes another seat, which has seen the same and has half of this one's share. It takes no memory.
+    /// Makes another seat, which has seen the same and gets half of this one's share. It allocates nothing.
     fn split(&self, seat: &mut Self::Seat) -> Self::Seat
         requires { is_seat self.now seat.old }
         ensures seat { is_seat self.now seat.new }
@@ -90,8 +90,8 @@ pub trait DeskLike: Sync {
         ensures accounts { Accounts (view seat.new) }
         ensures clocked { Clocked (view seat.new) };
 
-    /// Takes another seat in: the seat has then seen the longer of the two lists, and the places and shares of both are
-    /// its own. A seat into which all that was split from it came back is alone again.
+    /// Joins another seat into this one, which has then seen the longer of the two lists and has the event numbers and
+    /// the shares of both. A seat is alone again once all that was split from it was joined into it.
     fn join(&self, seat: &mut Self::Seat, other: Self::Seat)
         requires seat { is_seat self.now seat.old }
         requires other { is_seat self.now other }
@@ -102,8 +102,8 @@ pub trait DeskLike: Sync {
         ensures clocked { Clocked (view seat.new) }
         ensures joins_clocks { JoinsClocks (view seat.old) (view other) (view seat.new) };
 
-    /// Sets a seat's clock and another to the later of the two. A worker that goes from desk to desk carries its clock
-    /// along so: what it does at a desk is stamped later than all that it did before.
+    /// Sets a seat's clock and another one to the later of the two. In this way a worker carries its clock from desk to
+    /// desk: what it does at a desk is stamped later than all that it did before.
     fn synchronize(&self, seat: &mut Self::Seat, clock: &mut Clock)
         requires { is_seat self.now seat.old }
         ensures seat { is_seat self.now seat.new }

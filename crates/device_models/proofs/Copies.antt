@@ -1,7 +1,7 @@
 use Rattle.std.proofs.Common.{◌≡◌, ℕ, List, [], ◌∷◌, refl}
 use Rattle.std.specs.List.{AllZip}
 
--- words that are copies of each other, place by place, are the same words
+-- lists that are equal word for word are the same list
 pub same_words : (xs ys : List ℕ) → AllZip (λ x y. y ≡ x) xs ys → ys ≡ xs
 same_words [] [] h = refl
 same_words [] (y ∷ ys) h = absurd h

@@ -46,11 +46,12 @@ impl Model for Device {
 }
 
 impl Device {
-    /// A disk of `blocks` blocks of zeros, of which those of `bad` fail. In a valid part `blocks` is 1 to 256, and
+    /// A disk of `blocks` blocks of zeros, of which those in `bad` fail. In a valid part `blocks` is 1 to 256, and
     /// each bad block is one of them.
     #[tactic(auto, unfolding(machine_defs::specs::Devices::opening_device))]
     pub fn disk(alloc: Global, blocks: u32, bad: &BadBlocks) -> Result<Device, NoMemory>
-        ensures { IfOk result (λ made. made ≡ opening_device Class.Block blocks bad.now (defaults_of Class.Block)) }
+        ensures { IfOk result
+            (λ made. made ≡ opening_device Class.Block blocks bad.now (defaults_of Class.Block)) }
     {
         let medium = disk::blank(alloc, blocks as usize)?;
         let counts = Items::from_vec(vec![in alloc; 0; blocks as usize]?);
@@ -75,7 +76,8 @@ impl Device {
     #[tactic(auto, unfolding(machine_defs::specs::Devices::opening_device))]
     pub fn net(alloc: Global) -> Result<Device, NoMemory>
         ensures { (blocks : ℕ) (bad : List BadBlock)
-            → IfOk result (λ made. made ≡ opening_device Class.Net blocks bad (defaults_of Class.Net)) }
+            → IfOk result (λ made. made ≡ opening_device Class.Net blocks bad
+            (defaults_of Class.Net)) }
     {
         let kind = DeviceKind::Link(Link {
             length: 0,
@@ -106,7 +108,7 @@ impl Device {
         }
     }
 
-    /// What the device gives at `port`; `None`, with nothing changed, where it has no such port for IN.
+    /// Reads a word from the device at `port`; `None`, with nothing changed, if the device has no such port for IN.
     pub fn input(&mut self, port: u32) -> Option<Word>
         ensures given { input_of port self.old ≡ given_by result self.new }
         ensures refused { IsNone result → self.new ≡ self.old }
@@ -122,11 +124,12 @@ impl Device {
         }
     }
 
-    /// Hands the device a word at `port`, which adds at most one act; false, with nothing changed, where it has
-    /// no such port for OUT. It takes no memory.
+    /// Writes a word to the device at `port`, which adds at most one act; false, with nothing changed, if the device
+    /// has no such port for OUT. It takes no memory.
     pub fn output(&mut self, port: u32, word: Word, acts: &mut ActLog) -> bool
         requires { length acts.old < MOST_ACTS }
-        ensures taken { IsTaken (output_of port word self.old) result acts.old acts.new self.old self.new }
+        ensures taken { IsTaken
+            (output_of port word self.old) result acts.old acts.new self.old self.new }
         ensures class { class_of self.new ≡ class_of self.old }
     {
         if FIRST_REGISTER <= port && port <= LAST_REGISTER {
@@ -144,8 +147,8 @@ impl Device {
         )
     }
 
-    /// A reset: the registers take the class's defaults, and all else is cleared but the medium and the counts of
-    /// commands.
+    /// A reset: the registers get the class's defaults, and everything else is cleared except the medium and the counts
+    /// of commands.
     #[tactic(auto, unfolding(machine_defs::specs::Devices::reset_device))]
     pub fn reset(&mut self)
         ensures device { self.new ≡ reset_device (defaults_for self.old) self.old }
@@ -159,7 +162,7 @@ impl Device {
         }
     }
 
-    /// A frame of 1 to 64 words arrives at a net device; false, with the frame dropped, exactly where the ring
+    /// A frame of 1 to 64 words arrives at a net device; false, with the frame dropped, exactly if the ring
     /// holds 16. It takes no memory.
     #[tactic(auto, unfolding(machine_defs::specs::Devices::with_arrival))]
     pub fn arrive(&mut self, frame: Words) -> bool
@@ -183,7 +186,7 @@ impl Device {
         }
     }
 
-    /// The class whose device this is.
+    /// The class of the device.
     pub fn class(&self) -> Class
         ensures { result ≡ class_of self.now }
     {
@@ -194,7 +197,7 @@ impl Device {
         }
     }
 
-    /// The blocks of a disk, 16 words each; none of any other device.
+    /// The blocks of a disk, 16 words each; none for any other device.
     pub fn medium(&self) -> &[[Word; BLOCK_WORDS]]
         ensures { result.now ≡ medium_of self.now }
     {
@@ -218,7 +221,7 @@ impl Same for Device {
     }
 }
 
-/// Hands a word at a port that is no register's.
+/// Writes a word to the device at a port that is not a register's.
 fn own_output(
     kind: &mut DeviceKind,
     registers: &[Word; 4],
@@ -228,7 +231,8 @@ fn own_output(
 ) -> bool
     requires kept { IsKept kind.old }
     requires room { length acts.old < MOST_ACTS }
-    ensures taken { IsTaken (kind_output port word (device_of registers.now kind.old) kind.old) result
+    ensures taken { IsTaken
+        (kind_output port word (device_of registers.now kind.old) kind.old) result
         acts.old acts.new (device_of registers.now kind.old) (device_of registers.now kind.new) }
     ensures kept { IsKept kind.new }
     ensures class { class_of_kind kind.new ≡ class_of_kind kind.old }
@@ -240,11 +244,12 @@ fn own_output(
     }
 }
 
-/// Hands the sound device a word at its one port, which plays it at the rate and the volume of registers 0 and 1.
+/// Writes a word to the sound device at its one port; it is played at the rate and volume of registers 0 and 1.
 fn speaker_output(registers: &[Word; 4], port: u32, word: Word, acts: &mut ActLog) -> bool
     requires { length acts.old < MOST_ACTS }
     ensures { IsTaken (speaker_output port word (device_of registers.now speaker.Speaker)) result
-        acts.old acts.new (device_of registers.now speaker.Speaker) (device_of registers.now speaker.Speaker) }
+        acts.old acts.new (device_of registers.now speaker.Speaker)
+        (device_of registers.now speaker.Speaker) }
 {
     if port != 0 {
         return false;

@@ -1,6 +1,6 @@
 //! The disk's own ports.
 //!
-//! A driver sets the block register, fills or reads the buffer of 16 words at a position that goes on by itself,
+//! A driver sets the block register, fills or reads the buffer of 16 words at a position that advances automatically,
 //! and gives a command for the block: 1 loads it into the buffer, 2 stores the buffer.
 
 ghost use Rattle.std.specs.Prelude.{◌≡◌, ◌<◌, ◌∷◌, ◌++◌, ℕ, List, [], length, replicate, true, IfOk, IsNone};
@@ -23,17 +23,18 @@ const LOAD: Word = 1;
 /// The command that stores a block.
 const STORE: Word = 2;
 
-/// A medium of so many blocks of zeros.
+/// A medium of this many blocks of zeros.
 pub fn blank(alloc: Global, blocks: usize) -> Result<Items<[Word; BLOCK_WORDS]>, NoMemory>
     ensures { IfOk result (λ made. made ≡ replicate blocks (replicate BLOCK_WORDS 0)) }
 {
     Ok(Items::from_vec(vec![in alloc; [0; BLOCK_WORDS]; blocks]?))
 }
 
-/// What the disk gives at one of its own ports: 1 the block register, 2 the next buffer word, 3 the status.
+/// Reads a word from the disk at one of its ports: 1 the block register, 2 the next buffer word, 3 the status.
 pub fn input(disk: &mut Disk, port: u32) -> Option<Word>
     requires { IsKeptDisk disk.old }
-    ensures given { (registers : List ℕ) → disk_input port (device_of registers (kinds.Disk disk.old)) disk.old
+    ensures given { (registers : List ℕ)
+        → disk_input port (device_of registers (kinds.Disk disk.old)) disk.old
         ≡ given_by result (device_of registers (kinds.Disk disk.new)) }
     ensures refused { IsNone result → disk.new ≡ disk.old }
     ensures kept { IsKeptDisk disk.new }
@@ -50,13 +51,14 @@ pub fn input(disk: &mut Disk, port: u32) -> Option<Word>
     }
 }
 
-/// Hands the disk a word at one of its own ports: 0 a command, 1 the block register, 2 the next buffer word.
+/// Writes a word to the disk at one of its ports: 0 a command, 1 the block register, 2 the next buffer word.
 pub fn output(disk: &mut Disk, port: u32, word: Word, acts: &mut ActLog) -> bool
     requires kept { IsKeptDisk disk.old }
     requires room { length acts.old < MOST_ACTS }
     ensures taken { (registers : List ℕ) → IsTaken
         (disk_output port word (device_of registers (kinds.Disk disk.old)) disk.old) result
-        acts.old acts.new (device_of registers (kinds.Disk disk.old)) (device_of registers (kinds.Disk disk.new)) }
+        acts.old acts.new (device_of registers (kinds.Disk disk.old))
+        (device_of registers (kinds.Disk disk.new)) }
     ensures kept { IsKeptDisk disk.new }
 {
     match port {
@@ -88,7 +90,7 @@ fn is_command(disk: &Disk, word: Word) -> bool
 }
 
 /// Whether a command on the block of the block register fails: some entry of that block has `after` at most the
-/// number of commands that the block had.
+/// number of commands that the block has had.
 fn is_failing(disk: &Disk) -> bool
     requires { disk.now.block < length disk.now.counts }
     ensures { result ≡ is_failing disk.now }
@@ -101,7 +103,7 @@ fn is_failing(disk: &Disk) -> bool
         .any(|bad| bad.block == block && bad.after <= count)
 }
 
-/// Does a command, which counts whether it fails or not.
+/// Executes a command, which counts whether it fails or not.
 fn command(disk: &mut Disk, word: Word, acts: &mut ActLog)
     requires kept { IsKeptDisk disk.old }
     requires room { length acts.old < MOST_ACTS }
@@ -129,7 +131,7 @@ fn command(disk: &mut Disk, word: Word, acts: &mut ActLog)
     }
 }
 
-/// The disk as after a reset: medium and counts stay.
+/// The disk after a reset: medium and counts stay.
 pub fn reset(disk: &mut Disk)
     ensures { kinds.Disk disk.new ≡ reset_kind (kinds.Disk disk.old) }
 {

@@ -1,7 +1,7 @@
 //! The three devices that drivers reach through ports: a disk whose blocks may fail, a net device with a receive
 //! ring, and a sound device.
 //!
-//! A device takes memory when it is made or copied, and none later.
+//! A device takes memory only when it is made or copied.
 #![tactic(auto)]
 
 mod device;

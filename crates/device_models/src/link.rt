@@ -1,7 +1,7 @@
 //! The net device's own ports.
 //!
 //! To send, a driver sets the transmit length, fills the transmit buffer, and gives the command 1. To receive, it
-//! reads the first frame of the ring, and gives the command 2, which lets that frame leave.
+//! reads the first frame of the ring, and gives the command 2, which removes that frame.
 
 ghost use Rattle.std.specs.Prelude.{◌≡◌, ◌<◌, ℕ, List, length, true, IsNone};
 ghost use Rattle.machine_defs.specs.Devices.{link_command, link_input, link_output, next_reading, reset_kind};
@@ -13,13 +13,14 @@ use nook_data::journal::ActLog;
 use nook_data::limits::{MOST_ACTS, MOST_FRAME_WORDS};
 use nook_data::lists::Word;
 
-/// The words of the transmit buffer: those of a frame.
+/// The number of words in the transmit buffer: those of a frame.
 const BUFFER_WORDS: u32 = MOST_FRAME_WORDS as u32;
 
-/// What the net device gives at one of its own ports: 1 the transmit length, 3 the length of the ring's first
+/// Reads a word from the net device at one of its ports: 1 the transmit length, 3 the length of the ring's first
 /// frame, 4 that frame's next word.
 pub fn input(link: &mut Link, port: u32) -> Option<Word>
-    ensures given { (registers : List ℕ) → link_input port (device_of registers (kinds.Link link.old)) link.old
+    ensures given { (registers : List ℕ)
+        → link_input port (device_of registers (kinds.Link link.old)) link.old
         ≡ given_by result (device_of registers (kinds.Link link.new)) }
     ensures refused { IsNone result → link.new ≡ link.old }
 {
@@ -35,7 +36,7 @@ pub fn input(link: &mut Link, port: u32) -> Option<Word>
     }
 }
 
-/// The receive position after a word was read: it stays at an empty ring, and at 64, past any frame's end.
+/// The receive position after a word is read: it stays at an empty ring, and at 64, past any frame's end.
 fn next_reading(link: &Link) -> u32
     ensures { result ≡ next_reading link.now }
 {
@@ -46,13 +47,14 @@ fn next_reading(link: &Link) -> u32
     }
 }
 
-/// Hands the net device a word at one of its own ports: 0 a command, 1 the transmit length, 2 the next word of
+/// Writes a word to the net device at one of its ports: 0 a command, 1 the transmit length, 2 the next word of
 /// the transmit buffer.
 pub fn output(link: &mut Link, port: u32, word: Word, acts: &mut ActLog) -> bool
     requires { length acts.old < MOST_ACTS }
     ensures { (registers : List ℕ) → IsTaken
         (link_output port word (device_of registers (kinds.Link link.old)) link.old) result
-        acts.old acts.new (device_of registers (kinds.Link link.old)) (device_of registers (kinds.Link link.new)) }
+        acts.old acts.new (device_of registers (kinds.Link link.old))
+        (device_of registers (kinds.Link link.new)) }
 {
     match port {
         0 => {
@@ -76,13 +78,14 @@ pub fn output(link: &mut Link, port: u32, word: Word, acts: &mut ActLog) -> bool
     }
 }
 
-/// Word 1 sends the first words of the transmit buffer, where the length is 1 to 64; word 2 lets the ring's first
-/// frame leave, where there is one; any other word does nothing.
+/// Word 1 sends the first words of the transmit buffer if the length is 1 to 64; word 2 removes the ring's first
+/// frame if there is one; any other word does nothing.
 fn command(link: &mut Link, word: Word, acts: &mut ActLog)
     requires { length acts.old < MOST_ACTS }
     ensures { (registers : List ℕ) → IsTaken
         (link_command word (device_of registers (kinds.Link link.old)) link.old) true
-        acts.old acts.new (device_of registers (kinds.Link link.old)) (device_of registers (kinds.Link link.new)) }
+        acts.old acts.new (device_of registers (kinds.Link link.old))
+        (device_of registers (kinds.Link link.new)) }
 {
     match word {
         1 if 1 <= link.length && link.length <= BUFFER_WORDS => {
@@ -98,7 +101,7 @@ fn command(link: &mut Link, word: Word, acts: &mut ActLog)
     }
 }
 
-/// The net device as after a reset.
+/// The net device after a reset.
 pub fn reset(link: &mut Link)
     ensures { kinds.Link link.new ≡ reset_kind (kinds.Link link.old) }
 {

@@ -1,4 +1,4 @@
--- The contexts of a domain, and the service that a context asks for.
+-- The contexts of a domain, and the service that a context requests.
 use Rattle.std.proofs.Common.{◌≡◌, ◌∙◌, ℕ, zero, suc, List, [], ◌∷◌, Option, None, Some, Result, refl, slice_index_or}
 use Rattle.nook_data.specs.declared.classes.Class.{Class}
 use Rattle.nook_data.specs.declared.entries.Entry.{Entry}
@@ -8,13 +8,13 @@ use Rattle.nook_data.specs.declared.machine.Service.{Service}
 use Rattle.part_defs.specs.Domain.{context_of}
 use Rattle.machine_defs.specs.Services.{checked}
 
--- what stands at a context's place
+-- the entry at a context's index
 pub context_at : (contexts : List (Option Context)) (context : ℕ) → slice_index_or contexts context None ≡ context_of context contexts
 context_at [] zero = refl
 context_at [] (suc context) = refl
 context_at (x ∷ contexts) zero = refl
 context_at (x ∷ contexts) (suc context) = context_at contexts context
 
--- equal arguments, equal service
-pub checked_same : (told : Result Service BadParam) (number a b x y : ℕ) (c k : Class) (es fs : List Entry) → told ≡ checked number a b c es → a ≡ x → b ≡ y → c ≡ k → es ≡ fs → told ≡ checked number x y k fs
-checked_same told number a b x y c k es fs is first second class entries = rw (← first, ← second, ← class, ← entries) is
+-- equal arguments give an equal service
+pub checked_same : (reported : Result Service BadParam) (number a b x y : ℕ) (c k : Class) (es fs : List Entry) → reported ≡ checked number a b c es → a ≡ x → b ≡ y → c ≡ k → es ≡ fs → reported ≡ checked number x y k fs
+checked_same reported number a b x y c k es fs is first second class entries = rw (← first, ← second, ← class, ← entries) is

@@ -17,7 +17,7 @@ use Rattle.machine_defs.proofs.MachineCases.{lends}
 use Rattle.machine_defs.specs.Services.{served, alloc_served, borrow_served, give_back_served}
 use Rattle.param_wrappers.specs.Crossing.{with_loan}
 
--- a test of each of n numbers from a on, where one test changes
+-- a test of each of n numbers from a on, when one test changes
 
 each_same : (f g : ℕ → Bool) (n a : ℕ) → ((c : ℕ) → a ≤ c → f c ≡ g c) → map f (range_with_len a n) ≡ map g (range_with_len a n)
 each_same f g zero a same = refl
@@ -31,7 +31,7 @@ one_set f g b (suc n) a zero j at here others =
 one_set f g b (suc n) a (suc k) j at here others =
     rw (others a (omega arith) (λ same. absurd (omega (arith, same, at))), one_set f g b n (a + 1) k j (omega (arith, at)) here (λ c later. others c (omega (arith, later)))) refl
 
--- some entry of a changed list passes a test
+-- whether some entry of a changed list passes a test
 
 with_case : (p : Entry → Bool) (e x : Entry) (es : List Entry) (before : Bool) → list_any p (with_entry e es) ≡ (p e || list_any p es) → list_any p (if before then e ∷ x ∷ es else x ∷ with_entry e es) ≡ (p e || list_any p (x ∷ es))
 with_case p e x es true ih = refl
@@ -60,7 +60,7 @@ kept_case : (p q : Entry → Bool) (e : Entry) (es : List Entry) (b : Bool) → 
 kept_case p q e es true test none ih = rw (test, ih) refl
 kept_case p q e es false test none ih = rw (test, ih, none test) refl
 
--- where none that pass are left out
+-- if no entry that passes is left out
 any_kept : (p q : Entry → Bool) (es : List Entry) → ((e : Entry) → q e ≡ false → p e ≡ false) → list_any p (filter q es) ≡ list_any p es
 any_kept p q [] none = refl
 any_kept p q (e ∷ es) none = kept_case p q e es (q e) refl (none e) (any_kept p q es none)
@@ -69,7 +69,7 @@ ended_case : (p q : Entry → Bool) (e : Entry) (es : List Entry) (b : Bool) →
 ended_case p q e es true test none ih = rw (test, none test, ih) refl
 ended_case p q e es false test none ih = rw (test, ih) refl
 
--- where all that pass are left out
+-- if all entries that pass are left out
 any_ended : (p q : Entry → Bool) (es : List Entry) → ((e : Entry) → q e ≡ true → p e ≡ false) → list_any p (filter q es) ≡ false
 any_ended p q [] none = refl
 any_ended p q (e ∷ es) none = ended_case p q e es (q e) refl (none e) (any_ended p q es none)

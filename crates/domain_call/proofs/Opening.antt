@@ -12,7 +12,7 @@ use Rattle.machine_defs.specs.Views.PageMap.{lent_contexts, none_lent}
 use Rattle.machine_defs.specs.Views.Ports.{class_of}
 use Rattle.machine_defs.specs.Pages.{opening_memory, opening_objects, padded_words, with_words}
 
--- words in place of as many words
+-- words overwrite as many words
 replaced : (before old new rest : List ℕ) (start : ℕ) → start ≡ length before → length new ≡ length old → with_words start new (before ++ (old ++ rest)) ≡ before ++ (new ++ rest)
 replaced before old new rest start at same =
     rw (at, same, take-append_seam before (old ++ rest), drop-append-add before (old ++ rest) (length old), drop-append_seam old rest) refl

@@ -1,4 +1,4 @@
-//! Pages and a device that are taken out of their domain, for a machine that is run turn by turn.
+//! Pages and a device taken out of their domain, for a machine that runs one instruction at a time.
 
 ghost use Rattle.std.specs.Prelude.{◌≡◌, []};
 ghost use Rattle.machine_defs.specs.Views.PageMap.{lent_contexts};
@@ -8,9 +8,10 @@ use domain_pages::PageMap;
 use driver_isa::Bus;
 use nook_data::journal::ActLog;
 use nook_data::lists::Word;
+use nook_data::machine::Instr;
 use object_tracker::Tracker;
 
-/// Pages and a device of their own; what the tracker records says where a machine may write.
+/// Detached pages and a device; what the tracker records says where a machine may write.
 #[derive(Drop)]
 pub struct Detached {
     pub pages: PageMap,
@@ -28,7 +29,7 @@ impl Bus for Detached {
 
     ghost held = { λ s. [] };
 
-    fn fetch(&self, address: u32) -> Option<Word> {
+    fn fetch(&self, address: u32) -> Option<Option<Instr>> {
         self.pages.fetch(address)
     }
 

@@ -1,4 +1,4 @@
-//! The domain, and what can be asked of it.
+//! The domain and its queries.
 
 ghost use Rattle.std.specs.Prelude.{◌≡◌, ◌+◌, ◌<◌, ◌≤◌, is_some, length, slice_index, IfOk};
 ghost use Rattle.std.specs.List.{list_any};
@@ -9,7 +9,7 @@ ghost use Rattle.part_defs.specs.Domain.{attempt_bursts, buffer_words, context_o
 ghost use Rattle.machine_defs.specs.Entries.{is_buffer_of, is_registered};
 ghost use Rattle.nook_data.specs.Layout.{buffer_start};
 ghost use Rattle.machine_defs.specs.Pages.{opening_memory};
-ghost use Rattle.domain_call.specs.Standing.{opening_standing};
+ghost use Rattle.domain_call.specs.DomainView.{opening_view};
 
 mod bursts;
 mod contexts;
@@ -36,7 +36,7 @@ use std::alloc::Global;
 use std::marker::Model;
 
 /// A driver's domain. Contracts see its part of the state, where the heap begins, and the class. The pages always
-/// lend for writing just the buffers that the tracker's entries lend for writing.
+/// lend for writing exactly the buffers that the tracker's entries lend for writing.
 pub struct Domain {
     class: Class,
     starts: Words,
@@ -47,9 +47,9 @@ pub struct Domain {
 }
 
 impl Model for Domain {
-    ghost use Rattle.domain_call.specs.Standing.{Standing, IsAgreed};
+    ghost use Rattle.domain_call.specs.DomainView.{DomainView, IsAgreed};
 
-    ghost Value = { Standing };
+    ghost Value = { DomainView };
 
     ghost view = { λ s. record {
       state = record {
@@ -67,7 +67,7 @@ impl Model for Domain {
 }
 
 impl Drop for Domain {
-    /// By hand, so that it is proved once, and not in each function that owns a domain.
+    /// Written by hand, so that it is proved once and not in each function that owns a domain.
     fn drop(self) {
         let Domain {
             class: _,
@@ -85,7 +85,7 @@ impl Domain {
     #[tactic(auto, unfolding(part_defs::specs::Domain::opening_domain), using(crate::proofs::Opening::lent_opening, crate::proofs::Opening::opening_class))]
     pub fn new(alloc: Global, spec: &PartSpec) -> Result<Domain, NoMemory>
         requires { length spec.now.image.initial ≤ DATA_WORDS }
-        ensures { IfOk result (λ made. made ≡ opening_standing spec.now) }
+        ensures { IfOk result (λ made. made ≡ opening_view spec.now) }
     {
         let starts = spec.image.entries.copy(alloc)?;
         let device = device_of(alloc, spec)?;
@@ -132,7 +132,7 @@ impl Domain {
         self.inside(context).is_some()
     }
 
-    /// The context, where it is Inside. The context is at most 16.
+    /// The context, if it is Inside. The context is at most 16.
     #[tactic(auto, using(crate::proofs::Contexts::context_at))]
     pub fn inside(&self, context: u8) -> Option<Context>
         requires { context < CONTEXTS }
@@ -141,7 +141,7 @@ impl Domain {
         self.contexts[context as usize]
     }
 
-    /// The context with this number, where there is one and it is Inside.
+    /// The context with this number, if there is one and it is Inside.
     pub fn find_inside(&self, context: u8) -> Option<Context>
         ensures { result ≡ context_of context self.now.state.contexts }
     {
@@ -213,7 +213,7 @@ impl TryCopy for Domain {
     }
 }
 
-/// The device of a part as it begins.
+/// The device of a new part.
 fn device_of(alloc: Global, spec: &PartSpec) -> Result<Device, NoMemory>
     ensures { IfOk result (λ made. made ≡ opening_device spec.now.class spec.now.blocks spec.now.bad (defaults_of spec.now.class)) }
 {
@@ -224,7 +224,7 @@ fn device_of(alloc: Global, spec: &PartSpec) -> Result<Device, NoMemory>
     }
 }
 
-/// The pages of a domain as it begins: all words 0 but kernel object 0, which has the class's defaults, and the
+/// The pages of a new domain: all words 0 except kernel object 0, which has the class's defaults, and the
 /// first word of objects 1 to 12, which is the object's number.
 #[tactic(auto, using(crate::proofs::Opening::opening_words))]
 fn opening_pages(alloc: Global, class: Class) -> Result<PageMap, NoMemory>

@@ -8,6 +8,7 @@ use domain_pages::PageMap;
 use driver_isa::Bus;
 use nook_data::journal::ActLog;
 use nook_data::lists::Word;
+use nook_data::machine::Instr;
 use object_tracker::Tracker;
 
 /// Pages and a device, lent to a machine; what the tracker records says where it may write.
@@ -28,7 +29,7 @@ impl<'a> Bus for Reach<'a> {
 
     ghost held = { λ s. s.pages.ghost_name ∷ s.device.ghost_name ∷ [] };
 
-    fn fetch(&self, address: u32) -> Option<Word> {
+    fn fetch(&self, address: u32) -> Option<Option<Instr>> {
         self.pages.fetch(address)
     }
 

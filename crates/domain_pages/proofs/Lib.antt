@@ -3,3 +3,4 @@ pub mod Own
 pub mod Rights
 pub mod Shown
 pub mod Texts
+pub mod Decoded

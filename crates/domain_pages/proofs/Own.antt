@@ -1,11 +1,11 @@
--- Which pages have a copy of their own after words are written.
+-- Which pages have their own copy after words are written.
 use Rattle.std.proofs.Common.{◌≡◌, ◌≢◌, inl, inr, ℕ, ◌+◌, ◌-◌, ◌/◌, ◌<◌, ◌≤◌, ◌&&◌, ◌||◌, nat_le, nat_lt, Bool, true, false, List, length, set, take, slice_index_or, arith, refl, sym, ap, ◌∙◌}
 use Rattle.std.proofs.lemmas.Bool.{cases_eq}
 use Rattle.std.proofs.lemmas.List.{get_or-set_same, get_or-set_other, get_or-take, length-take}
 use Rattle.std.proofs.lemmas.List.FromFn.{fill_by_all}
 use Rattle.domain_pages.specs.Frames.{has_some, with_own}
 
--- the pages of some words are those from the first one's page on, up to the one behind the last one's
+-- the pages of some words are those from the page of the first word to the page of the last
 pub has_between : (start count page : ℕ) → 0 < count → has_some start count page ≡ (nat_le (start / 64) page && nat_lt page ((start + count - 1) / 64 + 1))
 has_between start count page some = grind arith
 
@@ -30,7 +30,7 @@ here_between first at low = grind arith
 other_between : (first at page : ℕ) → page ≢ at → (nat_le first page && nat_lt page at) ≡ (nat_le first page && nat_lt page (at + 1))
 other_between first at page other = grind arith
 
--- one page more has got its frame
+-- another page has got its frame
 pub owned_more : (old now : List Bool) (first at : ℕ) → first ≤ at → at < length now → AreOwned old now first at → AreOwned old (set now at true) first (at + 1)
 owned_more old now first at low within owned page lt = elim (cases_eq page at) [
   | inl same ↦ rw (same, here_between first at low) (get_or-set_same now at true false within)

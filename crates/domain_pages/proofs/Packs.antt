@@ -1,8 +1,10 @@
--- Frames that are kept in little memory: that all words come back.
+-- Frames are kept packed: all words come back.
 use Rattle.std.proofs.Common.{◌≡◌, ◌≢◌, ◌⊎◌, inl, inr, ℕ, zero, suc, ◌+◌, ◌-◌, ◌*◌, ◌/◌, ◌<◌, ◌≤◌, Bool, true, false, List, [], ◌∷◌, ◌++◌, append-nil, append_assoc, length, get_or, set, take, drop, replicate, slice_index, slice_index_or, slice_range, arith, refl, sym, ap, ap₂, ◌∙◌}
 use Rattle.std.proofs.lemmas.Bool.{cases_Bool, cases_lt}
 use Rattle.std.proofs.Math.Seq.{drop-cons}
 use Rattle.std.proofs.lemmas.List.{drop-drop, get_or_append_left, get_or-append_right, get_or-drop, get_or-replicate, get_or-take, length-append, length-drop, get_or-set_other, get_or_past, length-replicate, length-take-le}
+use Rattle.driver_isa.specs.declared.decoded.Decoded.{Decoded}
+use Rattle.domain_pages.specs.Decoding.{IsDecoded}
 use Rattle.domain_pages.specs.Frames.{image_word, word_at, shown, IsFramed, IsEndOfText, IsText}
 use Rattle.domain_pages.specs.Packed.{frame_words, packed, unpacked, IsPacked}
 use Rattle.domain_pages.proofs.Shown.{image_high, image_low, length-shown, length-with_words, map_of, padded_at, shown_at, shown_by, words_at}
@@ -14,7 +16,7 @@ pub maps_same : (table tables : List Bool) (words others text texts initial init
 maps_same table tables words others text texts initial initials lent lents loans same frames image fetched =
     rw (frames, loans, same, image, fetched) refl
 
--- the first of what is left of a list
+-- the first item of the rest of a list
 pub drop_next : {X : Type 0} (xs : List X) (i : ℕ) (d : X) → i < length xs → drop i xs ≡ get_or xs i d ∷ drop (i + 1) xs
 drop_next xs i d l = drop-cons xs i d l ∙ ap (λ n. get_or xs i d ∷ drop n xs) (next i)
   where
@@ -23,7 +25,7 @@ drop_next xs i d l = drop-cons xs i d l ∙ ap (λ n. get_or xs i d ∷ drop n x
 
 -- ---- the words of frames
 
--- one page more
+-- one more page
 pub packed_owned : (table : List Bool) (frames made : List ℕ) (page : ℕ) → page < length table → slice_index_or table page false ≡ true
     → (made ++ take 64 (drop (page * 64) frames)) ++ packed (drop (page + 1) table) (drop ((page + 1) * 64) frames)
     ≡ made ++ packed (drop page table) (drop (page * 64) frames)
@@ -75,12 +77,12 @@ length-unpacked (false ∷ table) words size =
     ∙ ap₂ (λ (m n : ℕ). m + n) (length-replicate {A = ℕ} 64 0) (length-unpacked table words size)
     ∙ omega arith
 
--- behind a first page
-get_behind : (own rest : List ℕ) (k : ℕ) → length own ≡ 64 → 64 ≤ k → get_or (own ++ rest) k 0 ≡ get_or rest (k - 64) 0
-get_behind own rest k size past = get_or-append_right own rest 64 k 0 size past
+-- after a first page
+get_after : (own rest : List ℕ) (k : ℕ) → length own ≡ 64 → 64 ≤ k → get_or (own ++ rest) k 0 ≡ get_or rest (k - 64) 0
+get_after own rest k size past = get_or-append_right own rest 64 k 0 size past
 
-table_behind : (b : Bool) (table : List Bool) (k : ℕ) → 64 ≤ k → slice_index_or (b ∷ table) (k / 64) false ≡ slice_index_or table ((k - 64) / 64) false
-table_behind b table k past = ap (λ n. get_or (b ∷ table) n false) (next k past)
+table_after : (b : Bool) (table : List Bool) (k : ℕ) → 64 ≤ k → slice_index_or (b ∷ table) (k / 64) false ≡ slice_index_or table ((k - 64) / 64) false
+table_after b table k past = ap (λ n. get_or (b ∷ table) n false) (next k past)
   where
     next : (k : ℕ) → 64 ≤ k → k / 64 ≡ suc ((k - 64) / 64)
     next k past = grind arith
@@ -91,7 +93,7 @@ table_here b table k low = ap (λ n. get_or (b ∷ table) n false) (none k low)
     none : (k : ℕ) → k < 64 → k / 64 ≡ 0
     none k low = grind arith
 
--- a word of a page that has a frame comes back
+-- unpacking restores a word of a page that has a frame
 pub comes_back : (table : List Bool) (frames : List ℕ) (k : ℕ) → length frames ≡ length table * 64 → k < length table * 64 → slice_index_or table (k / 64) false ≡ true → get_or (unpacked table (packed table frames)) k 0 ≡ get_or frames k 0
 comes_back [] frames k size lt owned = absurd (omega arith)
 comes_back (true ∷ table) frames k size lt owned =
@@ -102,8 +104,8 @@ comes_back (true ∷ table) frames k size lt owned =
     ap₂ (λ xs ys. get_or (xs ++ unpacked table ys) k 0) front back ∙ elim (cases_lt k 64) [
       | inl low ↦ get_or_append_left (take 64 frames) _ 0 k (omega (arith, first)) ∙ get_or-take 64 frames k 0 low
       | inr past ↦
-          get_behind (take 64 frames) _ k first past
-          ∙ comes_back table (drop 64 frames) (k - 64) (length-drop 64 frames ∙ omega (arith, size)) (omega arith) (sym (table_behind true table k past) ∙ owned)
+          get_after (take 64 frames) _ k first past
+          ∙ comes_back table (drop 64 frames) (k - 64) (length-drop 64 frames ∙ omega (arith, size)) (omega arith) (sym (table_after true table k past) ∙ owned)
           ∙ get_or-drop 64 frames (k - 64) 0
           ∙ ap (λ i. get_or frames i 0) (omega (arith, past))
     ]
@@ -122,8 +124,8 @@ comes_back (true ∷ table) frames k size lt owned =
 comes_back (false ∷ table) frames k size lt owned = elim (cases_lt k 64) [
   | inl low ↦ absurd (differ (sym (table_here false table k low) ∙ owned))
   | inr past ↦
-      get_behind (replicate 64 0) _ k (length-replicate {A = ℕ} 64 0) past
-      ∙ comes_back table (drop 64 frames) (k - 64) (length-drop 64 frames ∙ omega (arith, size)) (omega arith) (sym (table_behind false table k past) ∙ owned)
+      get_after (replicate 64 0) _ k (length-replicate {A = ℕ} 64 0) past
+      ∙ comes_back table (drop 64 frames) (k - 64) (length-drop 64 frames ∙ omega (arith, size)) (omega arith) (sym (table_after false table k past) ∙ owned)
       ∙ get_or-drop 64 frames (k - 64) 0
       ∙ ap (λ i. get_or frames i 0) (omega (arith, past))
 ]
@@ -131,9 +133,9 @@ comes_back (false ∷ table) frames k size lt owned = elim (cases_lt k 64) [
     differ : false ≡ true → ⊥
     differ h = cc
 
--- ---- the frames again, page by page
+-- ---- the frames, unpacked page by page
 
--- what is left to be put in its place, and what is in its place
+-- the words still to be unpacked, and those already in the frames
 pub record IsUnpackedTo (table : List Bool) (words frames rest : List ℕ) (page : ℕ) : Type 0 where
   pub size : length frames ≡ 8192
   pub rest_size : length rest ≡ frame_words (drop page table)
@@ -168,7 +170,7 @@ unpacks_owned table words frames rest own new page within low owned u is size in
       rest_size = length-drop 64 rest ∙ omega (arith, many);
       left = λ k l.
           from k (omega arith)
-          ∙ get_behind (take 64 rest) _ (k - page * 64) first (omega arith)
+          ∙ get_after (take 64 rest) _ (k - page * 64) first (omega arith)
           ∙ ap (λ i. get_or (unpacked (drop (page + 1) table) (drop 64 rest)) i 0) (omega arith);
       done = λ k l has. elim (cases_lt k (page * 64)) [
         | inl before ↦ outside k before ∙ u.done k before has
@@ -189,7 +191,7 @@ unpacks_free table words frames rest page within free u =
       left = λ k l.
           u.left k (omega arith)
           ∙ ap (λ t. get_or (unpacked t rest) (k - page * 64) 0) here
-          ∙ get_behind (replicate 64 0) _ (k - page * 64) (length-replicate {A = ℕ} 64 0) (omega arith)
+          ∙ get_after (replicate 64 0) _ (k - page * 64) (length-replicate {A = ℕ} 64 0) (omega arith)
           ∙ ap (λ i. get_or (unpacked (drop (page + 1) table) rest) i 0) (omega arith);
       done = λ k l has. elim (cases_lt k (page * 64)) [
         | inl before ↦ u.done k before has
@@ -267,9 +269,9 @@ packed_shows table frames text initial end pages f e =
     (λ k lt owned. comes_back table frames k size (omega (arith, pages)) owned)
     (λ k. text_without text end k e))
 
--- ---- a map again
+-- ---- a map is unpacked
 
--- the text and the zeros behind it are put in place of another text
+-- the text, followed by zeros, overwrites another text
 pub text_again : (was words now : List ℕ) (end more : ℕ) → length was ≡ 2048 → IsEndOfText end was → end ≤ more → length words ≤ more → more ≤ 2048
     → now ≡ with_words 0 (padded_words more words) was → (k : ℕ) → get_or now k 0 ≡ get_or words k 0
 text_again was words now end more size e some fits within is k =
@@ -367,12 +369,13 @@ end_of_loaded text texts short is = rw is (record {
   ];
 })
 
--- a vector's items, given back as they stand in the slices that were lent
-pub with_back : (now : List Bool) (items own texts text initial : List ℕ) (next : ℕ) → items ≡ own → texts ≡ text → IsFramed now own → IsText now own text initial → IsEndOfText next text
-    → IsFramed now items × IsText now items texts initial × IsEndOfText next texts
-with_back now items own texts text initial next back texts_back f t e = rw (back, texts_back) (f, t, e)
+-- a vector's items, returned as they are in the slices that were lent
+pub with_back : (now : List Bool) (items own texts text initial : List ℕ) (next : ℕ) (decoded entries : List Decoded) → items ≡ own → texts ≡ text → decoded ≡ entries
+    → IsFramed now own → IsText now own text initial → IsEndOfText next text → IsDecoded entries text
+    → IsFramed now items × IsText now items texts initial × IsEndOfText next texts × IsDecoded decoded texts
+with_back now items own texts text initial next decoded entries back texts_back entries_back f t e d = rw (back, texts_back, entries_back) (f, t, e, d)
 
--- one page more of the words of frames
+-- one more page of the words of frames
 pub packed_more_owned : (table : List Bool) (frames whole made more : List ℕ) (page : ℕ) → page < length table → slice_index_or table page false ≡ true
     → more ≡ made ++ slice_range frames (page * 64) (page * 64 + 64)
     → made ++ packed (drop page table) (drop (page * 64) frames) ≡ whole
@@ -394,7 +397,7 @@ packed_more_free table frames whole made more page within free is was =
     ∙ packed_free table frames made page within free
     ∙ was
 
--- the words of a page in its place
+-- a page's words are put into its frame
 pub frame_put : (frames new words : List ℕ) (page k : ℕ) → length frames ≡ 8192 → page < 128 → length words ≡ 64 → new ≡ with_words (page * 64) (padded_words 64 words) frames
     → (page * 64 ≤ k → k < page * 64 + 64 → get_or new k 0 ≡ get_or words (k - page * 64) 0)
     × ((k < page * 64) ⊎ (page * 64 + 64 ≤ k) → get_or new k 0 ≡ get_or frames k 0)

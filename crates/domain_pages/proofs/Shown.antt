@@ -1,4 +1,4 @@
--- How the words that a page map shows follow its frames, its table and its image.
+-- How the words that a page map shows follow from its frames, its table and its image.
 use Rattle.std.proofs.Common.{◌≡◌, ◌≢◌, ◌⊎◌, inl, inr, ℕ, suc, ◌+◌, ◌-◌, ◌*◌, ◌/◌, ◌<◌, ◌≤◌, Bool, true, false, List, [], ◌∷◌, ◌++◌, length, get_or, set, take, drop, replicate, slice_index, slice_index_or, slice_range, arith, refl, sym, ap, ◌∙◌, append_assoc}
 use Rattle.std.proofs.lemmas.Bool.{cases_eq, cases_lt}
 use Rattle.std.proofs.lemmas.Grind.{common_steps}
@@ -52,12 +52,12 @@ shown_write table now frames own text initial a v within size owned same =
           ∙ sym (kept_at now own text initial a v k there)
     ])
 
--- the same with the table in which the page has got its frame
+-- the same with the table in which the page has received its frame
 pub shown_put : (table : List Bool) (frames own text initial : List ℕ) (a v : ℕ) → a < 8192 → length own ≡ 8192 → length table ≡ 128 → ((k : ℕ) → k < 8192 → word_at (set table (a / 64) true) own text initial k ≡ word_at table frames text initial k) → shown (set table (a / 64) true) (set own a v) text initial ≡ set (shown table frames text initial) a v
 shown_put table frames own text initial a v within size pages same =
     shown_write table (set table (a / 64) true) frames own text initial a v within size (get_or-set_same table (a / 64) true false (omega arith)) same
 
--- a page that gets the image's words for its frame shows what it showed
+-- a page whose frame is filled with the image's words shows what it showed before
 pub owned_at : (table : List Bool) (frames own text initial : List ℕ) (page k : ℕ) → page < length table → slice_index_or table page false ≡ false → (page * 64 ≤ k → k < page * 64 + 64 → slice_index own k ≡ image_word text initial k) → ((k < page * 64) ⊎ (page * 64 + 64 ≤ k) → slice_index own k ≡ slice_index frames k) → word_at (set table page true) own text initial k ≡ word_at table frames text initial k
 owned_at table frames own text initial page k within free inside outside =
     elim (cases_eq (k / 64) page) [
@@ -110,7 +110,7 @@ abbrev pub map_of : List Bool → List ℕ → List ℕ → List ℕ → List Bo
 map_of table frames text initial lent =
     record { words = shown table frames text initial; lent = lent; own = take 115 table }
 
--- a word is written: a vector's items are given back as they stand in the slice that was lent
+-- a word is written: a vector's items are returned as they are in the slice that was lent
 pub map_put : (table now : List Bool) (frames items own text texts written initial : List ℕ) (lent : List Bool) (a v : ℕ) → items ≡ own → texts ≡ written → now ≡ set table (a / 64) true → shown now own written initial ≡ set (shown table frames text initial) a v → map_of now items texts initial lent ≡ page_written (map_of table frames text initial lent) a v
 map_put table now frames items own text texts written initial lent a v back texts_back got words =
     rw (back, texts_back, words, got, own_put table (a / 64)) refl
@@ -151,7 +151,7 @@ image_none k = elim (cases_lt k 2048) [
   | inr high ↦ image_high [] [] k high ∙ get_or_past [] (k - 2048) 0 (omega arith)
 ]
 
--- where only the objects have frames
+-- if only the objects have frames
 word_low : (frames text initial : List ℕ) (k : ℕ) → k < 7360 → word_at opening_table frames text initial k ≡ image_word text initial k
 word_low frames text initial k low = rw (table_low (k / 64) (omega arith)) refl
 
@@ -225,7 +225,7 @@ pub lent_opening : replicate 17 false ≡ none_lent
 unfolding none_lent
 lent_opening = refl
 
--- the table is made from the first object's page on
+-- the table is filled in from the first object's page on
 pub table_more : (page : ℕ) → 115 ≤ page → page < 128 → set (paste (replicate 128 false) 115 (replicate (page - 115) true) (page - 115)) page true ≡ paste (replicate 128 false) 115 (replicate (page + 1 - 115) true) (page + 1 - 115)
 table_more page low high =
     let i = page - 115 in
@@ -242,7 +242,7 @@ table_done = refl
 
 -- many words
 
--- a word of memory in which words were put
+-- a word of memory into which words were written
 pub words_at : (start : ℕ) (words memory : List ℕ) (k : ℕ) → start + length words ≤ length memory → (k < start → get_or (with_words start words memory) k 0 ≡ get_or memory k 0) × (start ≤ k → k < start + length words → get_or (with_words start words memory) k 0 ≡ get_or words (k - start) 0) × (start + length words ≤ k → get_or (with_words start words memory) k 0 ≡ get_or memory k 0)
 words_at start words memory k within =
     let front = take start memory in
@@ -269,7 +269,7 @@ length-with_words start words memory within =
       length-drop (start + length words) memory,
     )
 
--- words that are written into frames, where each page of them has one
+-- words are written into frames, if each of their pages has one
 pub shown_put_all : (old now : List Bool) (frames own text initial words : List ℕ) (start count : ℕ) → start + count ≤ 8192 → length own ≡ 8192 → length words ≤ count → AreMarked old now start count → ((k : ℕ) → k < 8192 → word_at now own text initial k ≡ word_at old frames text initial k) → shown now (with_words start (padded_words count words) own) text initial ≡ with_words start (padded_words count words) (shown old frames text initial)
 shown_put_all old now frames own text initial words start count within size fits marked same =
     let padded = padded_words count words in
@@ -290,7 +290,7 @@ shown_put_all old now frames own text initial words start count within size fits
       ]
     ])
 
--- the part behind the words that are written
+-- the part after the words that are written
 pub length_left : (memory words : List ℕ) (start count : ℕ) → start + count ≤ length memory → length words ≤ count → length (take (start + count - (start + length words)) (drop (start + length words) (paste memory start words (length words)))) ≡ count - length words
 length_left memory words start count within fits =
     let n = length words in
@@ -301,7 +301,7 @@ length_left memory words start count within fits =
     let left : length rest ≡ length done - (start + n) = length-drop (start + n) done in
     length-take-le (start + count - (start + n)) rest (omega (arith, left, long)) ∙ omega arith
 
--- the words and then the zeros are written
+-- the words are written, then the zeros
 pub written_all : (memory words : List ℕ) (start count : ℕ) → start + count ≤ length memory → length words ≤ count → paste (paste memory start words (length words)) (start + length words) (replicate (count - length words) 0) (count - length words) ≡ with_words start (padded_words count words) memory
 written_all memory words start count within fits =
     let zeros : List ℕ = replicate (count - length words) 0 in
@@ -312,7 +312,7 @@ written_all memory words start count within fits =
     ∙ paste_all memory start (padded_words count words) count (sym full)
     ∙ ap (λ n. take start memory ++ (padded_words count words ++ drop (start + n) memory)) (sym full)
 
--- one word more of a range
+-- one more word of a range
 pub range_more : (memory : List ℕ) (start i : ℕ) → start + i < length memory → slice_range memory start (start + i) ++ get_or memory (start + i) 0 ∷ [] ≡ slice_range memory start (start + (i + 1))
 range_more memory start i within =
     let next : start + i + 1 ≡ start + (i + 1) = omega arith in

@@ -1,7 +1,6 @@
--- How the words of text follow the frames, the table and the image.
+-- How the words of text follow from the frames, the table and the image.
 use Rattle.std.proofs.Common.{◌≡◌, ◌⊎◌, inl, inr, Some, ℕ, ◌+◌, ◌/◌, ◌<◌, ◌≤◌, if◌then◌else◌, Bool, true, false, List, [], ◌++◌, length, get_or, set, replicate, slice_index, slice_index_or, arith, refl, sym, ap, ◌∙◌}
 use Rattle.std.proofs.lemmas.Bool.{cases_eq, cases_lt}
-use Rattle.std.proofs.lemmas.Grind.{get_or_default_zero}
 use Rattle.std.proofs.lemmas.List.{append-nil, drop_all, get_or-replicate, get_or_past, get_or-set_same, get_or-set_other, length-set}
 use Rattle.std.specs.Global.{Vec}
 use Rattle.std.specs.Vec.{with_items}
@@ -20,15 +19,15 @@ text_opening frames text initial size = record {
 }
 
 -- the word that is fetched
-pub text_fetched : (table : List Bool) (frames text initial : List ℕ) (k w : ℕ) → IsText table frames text initial → k < 2048 → w ≡ get_or text k w → Some w ≡ fetch_word (shown table frames text initial) k
-text_fetched table frames text initial k w t low at =
-    ap Some (at ∙ get_or_default_zero text k w (omega (arith, t.size)) ∙ sym (shown_at table frames text initial k (omega arith) ∙ t.same k low))
+pub text_fetched : (table : List Bool) (frames text initial : List ℕ) (k : ℕ) → IsText table frames text initial → k < 2048 → Some (slice_index text k) ≡ fetch_word (shown table frames text initial) k
+text_fetched table frames text initial k t low =
+    ap Some (sym (shown_at table frames text initial k (omega arith) ∙ t.same k low))
     ∙ sym (fetch_low (shown table frames text initial) k low)
   where
     fetch_low : (memory : List ℕ) (k : ℕ) → k < 2048 → fetch_word memory k ≡ Some (slice_index memory k)
     fetch_low memory k low = grind arith
 
--- a text that differs only where pages have frames shows the same
+-- a text that differs only on pages with frames shows the same words
 same_word : (table : List Bool) (frames text other initial : List ℕ) (k : ℕ) → (k < 2048 → (slice_index other k ≡ slice_index text k) ⊎ (slice_index_or table (k / 64) false ≡ true)) → word_at table frames other initial k ≡ word_at table frames text initial k
 same_word table frames text other initial k alike = elim (cases_lt k 2048) [
   | inr high ↦ ap (λ w. if slice_index_or table (k / 64) false then get_or frames k 0 else w) (image_high other initial k high ∙ sym (image_high text initial k high))
@@ -70,7 +69,7 @@ pages_with table frames text texts initial lent image f short small done =
       take_opening,
     ) refl
 
--- a word is written, where its page has a frame
+-- a word is written and its page has a frame
 pub shown_put_text : (table now : List Bool) (frames own text initial : List ℕ) (a v : ℕ) → length table ≡ 128 → a < 8192 → now ≡ set table (a / 64) true → shown now own text initial ≡ set (shown table frames text initial) a v → shown now own (set text a v) initial ≡ set (shown table frames text initial) a v
 shown_put_text table now frames own text initial a v pages within got words =
     shown_same now own text (set text a v) initial (λ k low. elim (cases_eq k a) [
@@ -99,7 +98,7 @@ text_put table now frames own text initial a v pages within got t words =
           ];
     }
 
--- many words are written, where their pages have frames
+-- many words are written and their pages have frames
 pub shown_put_all_text : (old now : List Bool) (frames own text other initial words : List ℕ) (start count : ℕ) → start + count ≤ 8192 → AreMarked old now start count
     → ((k : ℕ) → (k < start) ⊎ (start + count ≤ k) → slice_index other k ≡ slice_index text k)
     → shown now own text initial ≡ with_words start (padded_words count words) (shown old frames text initial)

@@ -17,11 +17,11 @@ const PAGE_LEN: usize = PAGE_WORDS as usize;
 /// The words of text, as a length.
 const TEXT_LEN: usize = TEXT_WORDS as usize;
 
-/// The word at a place, 0 past the end.
-fn word_or_zero(words: &[Word], place: usize) -> Word
-    ensures { result ≡ slice_index words.now place }
+/// The word at an index, 0 past the end.
+fn word_or_zero(words: &[Word], index: usize) -> Word
+    ensures { result ≡ slice_index words.now index }
 {
-    words.get(place).copied().unwrap_or(0)
+    words.get(index).copied().unwrap_or(0)
 }
 
 /// An image's word at an address.
@@ -55,7 +55,7 @@ pub fn word_at(
     }
 }
 
-/// The image's 64 words from `start` on go to their frame.
+/// Copies the image's 64 words from `start` on into their frame.
 fn fill_frame(frames: &mut [Word], text: &[Word], initial: &[Word], start: usize)
     requires { start + PAGE_WORDS ≤ length frames.old }
     ensures size { length frames.new ≡ length frames.old }
@@ -67,7 +67,7 @@ fn fill_frame(frames: &mut [Word], text: &[Word], initial: &[Word], start: usize
     }
 }
 
-/// Gives a page a frame of its own, which shows what the page showed.
+/// Gives a page its own frame, which shows what the page showed.
 #[tactic(auto, using(crate::proofs::Shown::owned_at))]
 fn own(table: &mut [bool; PAGES], frames: &mut [Word], text: &[Word], initial: &[Word], page: usize)
     requires page { page < PAGES }
@@ -82,7 +82,7 @@ fn own(table: &mut [bool; PAGES], frames: &mut [Word], text: &[Word], initial: &
     }
 }
 
-/// Writes the word at an address, into the frame of its page, and into the text where it is of text.
+/// Writes the word at an address into the frame of its page, and also into the text if it is part of it.
 #[tactic(auto, using(crate::proofs::Texts::shown_put_text, crate::proofs::Texts::text_put))]
 pub fn put(
     table: &mut [bool; PAGES],
@@ -99,13 +99,14 @@ pub fn put(
     ensures size { length frames.new ≡ MEMORY_WORDS }
     ensures framed { IsFramed table.old frames.old → IsFramed table.new frames.new }
     ensures text { IsText table.new frames.new text.new initial.now }
+    ensures changed { text.new ≡ slice_set text.old address word }
     ensures words { shown table.new frames.new text.new initial.now ≡ slice_set (shown table.old frames.old text.old initial.now) address word }
 {
     put_in_frame(table, frames, text, initial, address, word);
     put_in_text(text, address, word);
 }
 
-/// Where the zeros at the text's end begin, after a write from an address on.
+/// Where the zeros at the end of the text begin after a write from an address on.
 pub fn end_after(end: usize, address: u32) -> usize
     requires { end ≤ TEXT_WORDS }
     ensures within { result ≤ TEXT_WORDS }
@@ -115,7 +116,7 @@ pub fn end_after(end: usize, address: u32) -> usize
     if address < TEXT_WORDS { TEXT_LEN } else { end }
 }
 
-/// Writes a word of text; an address behind the text has none.
+/// Writes a word of text; does nothing at an address past the text.
 fn put_in_text(text: &mut [Word], address: usize, word: Word)
     requires { length text.old ≡ TEXT_WORDS }
     ensures { text.new ≡ slice_set text.old address word }
@@ -125,7 +126,7 @@ fn put_in_text(text: &mut [Word], address: usize, word: Word)
     }
 }
 
-/// Writes the word at an address, into the frame of its page.
+/// Writes the word at an address into the frame of its page.
 #[tactic(auto, using(crate::proofs::Shown::shown_put, crate::proofs::Shown::framed_put))]
 fn put_in_frame(
     table: &mut [bool; PAGES],
@@ -146,7 +147,7 @@ fn put_in_frame(
     frames[address] = word;
 }
 
-/// The page behind those that have one of `count` words from an address on.
+/// The page after those that contain one of `count` words from an address on.
 #[tactic(auto, using(crate::proofs::Own::has_between))]
 fn page_end(start: usize, count: usize) -> usize
     requires within { start + count ≤ MEMORY_WORDS }
@@ -161,7 +162,7 @@ fn page_end(start: usize, count: usize) -> usize
     }
 }
 
-/// Gives each page that has one of `count` words from an address on a frame of its own, which shows what the page showed.
+/// Gives each page that contains one of `count` words from an address on its own frame; it shows what the page showed.
 fn own_all(
     table: &mut [bool; PAGES],
     frames: &mut [Word],
@@ -181,7 +182,7 @@ fn own_all(
     }
 }
 
-/// Writes these words from an address on, and then zeros, `count` words in all.
+/// Writes these words from an address on, then zeros, `count` words in all.
 pub fn write_all(frames: &mut [Word], start: usize, words: &[Word], count: usize)
     requires within { start + count ≤ length frames.old }
     requires fits { length words.now ≤ count }
@@ -192,8 +193,8 @@ pub fn write_all(frames: &mut [Word], start: usize, words: &[Word], count: usize
     frames[end..start + count].fill(0);
 }
 
-/// Writes `count` words from an address on: these words and then zeros. Each page is given its frame once, and what is of
-/// text is written there too.
+/// Writes `count` words from an address on: these words, then zeros. Each page gets its frame once, and words of text
+/// are also written to the text.
 #[tactic(auto, using(crate::proofs::Texts::shown_put_all_text, crate::proofs::Texts::text_put_all))]
 pub fn put_all(
     table: &mut [bool; PAGES],
@@ -210,6 +211,7 @@ pub fn put_all(
     requires fits { length words.now ≤ count }
     ensures framed { IsFramed table.old frames.old → IsFramed table.new frames.new }
     ensures text { IsText table.new frames.new text.new initial.now }
+    ensures unchanged { (k : ℕ) → (k < start) ⊎ (start + count ≤ k) → slice_index text.new k ≡ slice_index text.old k }
     ensures words { shown table.new frames.new text.new initial.now ≡ with_words start (padded_words count words.now) (shown table.old frames.old text.old initial.now) }
     ensures own { take OWN_PAGES table.new ≡ with_own start count (take OWN_PAGES table.old) }
 {
@@ -240,7 +242,7 @@ fn put_in_frames(
     write_all(frames, start, words, count);
 }
 
-/// The text shows what the frames of its pages hold, at each of `count` addresses from one on that is of text.
+/// Copies `count` words from an address on, those that are text, from the frames of their pages into the text.
 fn show_text(text: &mut [Word], frames: &[Word], start: usize, count: usize)
     requires within { start + count ≤ MEMORY_WORDS }
     requires text { length text.old ≡ TEXT_WORDS }
@@ -265,7 +267,7 @@ pub fn opening_table() -> [bool; PAGES]
     table
 }
 
-/// All frames, as they are at first.
+/// All frames in their initial state.
 pub fn opening_frames(alloc: Global) -> Result<Vec<Word>, NoMemory>
     ensures { IfOk result (λ frames. frames.items ≡ opening_memory []) }
 {

@@ -1,15 +1,19 @@
 //! The page map.
 
 ghost use Rattle.std.specs.Prelude.{◌≡◌, ◌+◌, ◌/◌, ◌<◌, ◌≤◌, true, false, length, slice_get, slice_set, slice_range, slice_index, slice_index_or, IfOk, OnOk, OnErr};
-ghost use Rattle.machine_defs.specs.Pages.{read_word, fetch_word, padded_words, with_words};
+ghost use Rattle.driver_isa.specs.Steps.{fetched};
+ghost use Rattle.machine_defs.specs.Pages.{read_word, padded_words, with_words};
 ghost use Rattle.machine_defs.specs.Views.PageMap.{opening_pages, may_change, page_written, driver_written};
 ghost use Rattle.machine_defs.specs.Views.PageMap.{pages_loaded};
 ghost use Rattle.domain_pages.specs.Frames.{with_own};
 
+use crate::decoding::{decode_range, put_decoded};
 use crate::frames::{end_after, opening_frames, opening_table, put, put_all, word_at, write_all};
 use crate::packed::{PackedPages, packed_frames, unpack_frames};
+use driver_isa::{Decoded, decoded_of, instr_of};
 use nook_data::limits::CONTEXTS;
 use nook_data::lists::{Items, TryCopy, Word, Words};
+use nook_data::machine::Instr;
 use nook_data::memory::{NoMemory, Room};
 use nook_data::memory_map::{
     BUFFER_WORDS, BUFFERS_END, DATA_START, DATA_WORDS, MEMORY_WORDS, OWN_PAGES, PAGES, STACKS_END,
@@ -20,13 +24,15 @@ use std::alloc::Global;
 use std::marker::Model;
 
 /// The words of a driver domain, and where the driver may write. Contracts see the 8,192 words, the contexts whose
-/// buffers are lent for writing, and the pages of the driver that have had a word written since the last load.
+/// buffers are lent for writing, and the pages of the driver in which a word was written since the last load.
 #[derive(Drop)]
 pub struct PageMap {
     alloc: Global,
-    /// The words of text as they are shown: so a turn fetches without a look at the table.
+    /// The words of text as they are shown.
     text: Vec<Word>,
-    /// Behind so many words the text is zeros.
+    /// The instruction of each of them, so that a fetch looks at neither the table nor the word.
+    decoded: Vec<Decoded>,
+    /// From this address on the text is zeros.
     text_end: usize,
     initial: Words,
     table: [bool; PAGES],
@@ -39,6 +45,7 @@ impl Model for PageMap {
     ghost use Rattle.machine_defs.specs.Views.PageMap.{PageMap};
     ghost use Rattle.nook_data.specs.declared.memory_map.TheConstants.{OWN_PAGES};
     ghost use Rattle.domain_pages.specs.Frames.{shown, IsEndOfText, IsFramed, IsText};
+    ghost use Rattle.domain_pages.specs.Decoding.{IsDecoded};
 
     ghost Value = { PageMap };
 
@@ -49,20 +56,22 @@ impl Model for PageMap {
     } };
 
     ghost invariant = { λ s. IsFramed s.table s.frames.items × IsText s.table s.frames.items s.text.items s.initial
-        × IsEndOfText s.text_end s.text.items };
+        × IsEndOfText s.text_end s.text.items × IsDecoded s.decoded.items s.text.items };
 }
 
 impl PageMap {
-    /// The map as a domain begins: all words 0 but the first of kernel objects 1 to 12, which is the object's
-    /// number; nothing is lent. It takes every frame.
+    /// The map of a new domain: all words 0 except the first of kernel objects 1 to 12, which is the object's
+    /// number; nothing is lent. It allocates every frame.
     pub fn new(alloc: Global) -> Result<PageMap, NoMemory>
         ensures { IfOk result (λ made. made ≡ opening_pages) }
     {
         let text = vec![in alloc; 0; TEXT_WORDS as usize]?;
+        let decoded = vec![in alloc; decoded_of(0); TEXT_WORDS as usize]?;
         let frames = opening_frames(alloc)?;
         Ok(PageMap {
             alloc,
             text,
+            decoded,
             text_end: 0,
             initial: Words::new(alloc),
             table: opening_table(),
@@ -71,7 +80,7 @@ impl PageMap {
         })
     }
 
-    /// The word at an address; `None` exactly where the address exceeds 8,191.
+    /// The word at an address; `None` exactly if the address exceeds 8,191.
     pub fn read(&self, address: u32) -> Option<Word>
         ensures { result ≡ read_word self.now.words address }
     {
@@ -82,12 +91,12 @@ impl PageMap {
         }
     }
 
-    /// The word of text at an address; `None` exactly where the address exceeds 2,047.
-    pub fn fetch(&self, address: u32) -> Option<Word>
-        ensures { result ≡ fetch_word self.now.words address }
+    /// The instruction of the text word at an address, if that is one; `None` exactly if the address exceeds 2,047.
+    pub fn fetch(&self, address: u32) -> Option<Option<Instr>>
+        ensures { result ≡ fetched self.now.words address }
     {
         if address < TEXT_WORDS {
-            Some(self.text[address as usize])
+            Some(instr_of(&self.decoded[address as usize]))
         } else {
             None
         }
@@ -108,7 +117,7 @@ impl PageMap {
         )
     }
 
-    /// A driver's write; false, with nothing changed, exactly where the driver may not write.
+    /// A driver's write; false, with nothing changed, exactly if the driver may not write there.
     pub fn write(&mut self, address: u32, word: Word) -> bool
         ensures allowed { result ≡ may_change self.old.lent address }
         ensures written { self.new ≡ driver_written self.old address word }
@@ -156,10 +165,11 @@ impl PageMap {
             address as usize,
             word,
         );
+        put_decoded(&mut self.decoded, address as usize, word);
     }
 
-    /// The kernel's own write of `count` words from an address on: these words and then zeros. Each page that has one of
-    /// the `count` words has a copy of its own from now on; every other page is as before.
+    /// The kernel's own write of `count` words from an address on: these words, then zeros. Each page with one of
+    /// the `count` words has its own copy from now on; every other page is unchanged.
     pub fn put_words(&mut self, start: u32, words: &[Word], count: u32)
         requires within { start + count ≤ MEMORY_WORDS }
         requires fits { length words.now ≤ count }
@@ -178,9 +188,11 @@ impl PageMap {
             words,
             count as usize,
         );
+        let end = TEXT_WORDS.min(start + count) as usize;
+        decode_range(&mut self.decoded, self.text.as_slice(), start as usize, end);
     }
 
-    /// `count` words from an address on, in the memory of `room`, which has room for them.
+    /// Reads `count` words from an address on, into the memory of `room`, which has room for them.
     pub fn words(&self, start: u32, count: u32, room: Room<Word>) -> Words
         requires within { start + count ≤ MEMORY_WORDS }
         requires room { count ≤ room }
@@ -194,7 +206,7 @@ impl PageMap {
         Items::from_vec(words)
     }
 
-    /// The context's buffer may be written from now on. The context is at most 16.
+    /// Lets the driver write the context's buffer. The context is at most 16.
     pub fn lend(&mut self, context: u8)
         requires { context < CONTEXTS }
         ensures { self.new ≡ record self.old { lent = slice_set self.old.lent context true } }
@@ -202,7 +214,7 @@ impl PageMap {
         self.lent[context as usize] = true;
     }
 
-    /// The context's buffer may no longer be written. The context is at most 16.
+    /// No longer lets the driver write the context's buffer. The context is at most 16.
     pub fn revoke(&mut self, context: u8)
         requires { context < CONTEXTS }
         ensures { self.new ≡ record self.old { lent = slice_set self.old.lent context false } }
@@ -210,7 +222,7 @@ impl PageMap {
         self.lent[context as usize] = false;
     }
 
-    /// Puts an image in place: its text, its initial words, and zeros in every other word of pages 0 to 114.
+    /// Loads an image: its text, its initial words, and zeros in every other word of pages 0 to 114.
     pub fn load(&mut self, image: &Image) -> Result<(), NoMemory>
         requires text { length image.now.text ≤ TEXT_WORDS }
         requires initial { length image.now.initial ≤ DATA_WORDS }
@@ -224,13 +236,15 @@ impl PageMap {
             image.text.as_slice(),
             TEXT_WORDS as usize,
         );
+        let end = self.text_end.max(image.text.len());
+        decode_range(&mut self.decoded, self.text.as_slice(), 0, end);
         self.text_end = image.text.len();
         self.initial = initial;
         self.table = opening_table();
         Ok(())
     }
 
-    /// Whether a word of the page was written since the last load, or since `new` where there was none. The page
+    /// Whether a word of the page was written since the last load, or since `new` if nothing was loaded. The page
     /// is at most 114.
     pub fn own_copy(&self, page: u32) -> bool
         requires { page < OWN_PAGES }
@@ -239,7 +253,7 @@ impl PageMap {
         self.table[page as usize]
     }
 
-    /// The words of the pages that have a frame, and what else tells the map, in memory of their size.
+    /// The words of the pages that have a frame and the map's other data, in memory of just their size.
     pub fn packed(&self, alloc: Global) -> Result<PackedPages, NoMemory>
         ensures { IfOk result (λ made. made ≡ self.now) }
     {
@@ -259,11 +273,13 @@ impl PageMap {
 impl TryCopy for PageMap {
     fn copy(&self, alloc: Global) -> Result<PageMap, NoMemory> {
         let text = Vec::from_slice(alloc, self.text.as_slice())?;
+        let decoded = Vec::from_slice(alloc, self.decoded.as_slice())?;
         let initial = self.initial.copy(alloc)?;
         let frames = Vec::from_slice(alloc, self.frames.as_slice())?;
         Ok(PageMap {
             alloc,
             text,
+            decoded,
             text_end: self.text_end,
             initial,
             table: self.table,
@@ -274,13 +290,14 @@ impl TryCopy for PageMap {
 }
 
 impl PackedPages {
-    /// The map again, in the memory of one that is no longer needed.
+    /// Unpacks the map, into the memory of one that is no longer needed.
     pub fn unpacked(&self, alloc: Global, over: PageMap) -> Result<PageMap, NoMemory>
         ensures { IfOk result (λ made. made ≡ self.now) }
     {
         let initial = self.initial.copy(alloc)?;
         let PageMap {
             mut text,
+            mut decoded,
             text_end,
             mut frames,
             ..
@@ -288,9 +305,11 @@ impl PackedPages {
         unpack_frames(&self.table, self.words.as_slice(), &mut frames);
         let end = text_end.max(self.text.len());
         write_all(&mut text, 0, self.text.as_slice(), end);
+        decode_range(&mut decoded, text.as_slice(), 0, end);
         Ok(PageMap {
             alloc,
             text,
+            decoded,
             text_end: self.text.len(),
             initial,
             table: self.table,

@@ -18,7 +18,7 @@ const PAGE_LEN: usize = PAGE_WORDS as usize;
 /// The words of all kernel objects.
 const OBJECTS_LEN: usize = (OBJECT_WORDS * OBJECTS) as usize;
 
-/// A page map of which only the words of pages that have a frame are kept. Contracts see the same as of a `PageMap`.
+/// A page map that keeps only the words of pages that have a frame. Contracts see the same as for a `PageMap`.
 #[derive(Drop)]
 pub struct PackedPages {
     /// The text, without the zeros at its end.
@@ -49,8 +49,8 @@ impl Model for PackedPages {
 }
 
 impl PackedPages {
-    /// Whether the other map is the same. One that is may be denied, but not one that was made by the same writes since
-    /// the same load.
+    /// Whether the other map is the same. It may return false for an equal map, but not for one that was made by the
+    /// same writes since the same load.
     #[tactic(auto, using(crate::proofs::Packs::maps_same))]
     pub fn is_same(&self, other: &PackedPages) -> bool
         ensures { result ≡ true → self.now ≡ other.now }
@@ -62,7 +62,7 @@ impl PackedPages {
             && are_same_words(self.text.as_slice(), other.text.as_slice())
     }
 
-    /// A digest, and more: the words of the driver's pages that have had one written since the last load. The same maps
+    /// Extends a digest by the words of the driver's pages in which one was written since the last load. Equal maps
     /// give the same number.
     pub fn digest(&self, digest: u64) -> u64 {
         let words = self.words.as_slice();
@@ -90,7 +90,7 @@ pub fn packed_frames(
     Ok(made)
 }
 
-/// How many pages have a frame.
+/// The number of pages that have a frame.
 fn count_frames(table: &[bool; PAGES]) -> usize
     ensures { result ≤ PAGES }
 {
@@ -103,7 +103,7 @@ fn count_frames(table: &[bool; PAGES]) -> usize
     count
 }
 
-/// Puts the words of the pages that have a frame in their places.
+/// Puts the words of the pages that have a frame into their frames.
 pub fn unpack_frames(table: &[bool; PAGES], words: &[Word], frames: &mut [Word])
     requires words { length words.now ≡ frame_words table.now }
     requires frames { length frames.old ≡ MEMORY_WORDS }
@@ -128,14 +128,14 @@ fn are_same_words(words: &[Word], others: &[Word]) -> bool
     words == others
 }
 
-/// Whether two lists of tests have the same answers.
+/// Whether two lists of flags are the same.
 fn are_same_flags<const N: usize>(flags: &[bool; N], others: &[bool; N]) -> bool
     ensures { Decides result (flags.now ≡ others.now) }
 {
     flags == others
 }
 
-/// A page's words go to its frame.
+/// Copies a page's words into its frame.
 fn put_frame(frames: &mut [Word], page: usize, words: &[Word])
     requires page { page < PAGES }
     requires frames { length frames.old ≡ MEMORY_WORDS }

@@ -8,17 +8,17 @@ use Rattle.asm_defs.specs.declared.keys.Key.{Key}
 use Rattle.asm_defs.specs.ImageText.{entry_members}
 use Rattle.serde_json.specs.Data.{Members}
 
-pub no_places : (entries : List Key) (places : List ℕ) → length places ≡ 0 → entry_lines entries places ≡ []
-no_places [] places none = refl
-no_places (entry ∷ entries) [] none = refl
-no_places (entry ∷ entries) (place ∷ places) none = absurd (omega (arith, none))
+pub no_numbers : (entries : List Key) (addresses : List ℕ) → length addresses ≡ 0 → entry_lines entries addresses ≡ []
+no_numbers [] addresses none = refl
+no_numbers (entry ∷ entries) [] none = refl
+no_numbers (entry ∷ entries) (address ∷ addresses) none = absurd (omega (arith, none))
 
-pub none_more : (entries : List Key) (places : List ℕ) (ms : Members) → length places ≡ 0 → entry_members entries places ms ≡ ms
-none_more [] places ms none = refl
+pub none_more : (entries : List Key) (addresses : List ℕ) (ms : Members) → length addresses ≡ 0 → entry_members entries addresses ms ≡ ms
+none_more [] addresses ms none = refl
 none_more (entry ∷ entries) [] ms none = refl
-none_more (entry ∷ entries) (place ∷ places) ms none = absurd (omega (arith, none))
+none_more (entry ∷ entries) (address ∷ addresses) ms none = absurd (omega (arith, none))
 
--- no class has more entries than an address can count
+-- no class has more entries than a 32-bit number can count
 pub few_entries : (c : Class) → entry_count c < 2 ^ 32
 few_entries class.Block = omega arith
 few_entries class.Net = omega arith

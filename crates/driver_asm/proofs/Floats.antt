@@ -25,16 +25,16 @@ both false b h = (refl, h)
 one_of : (a b : Bool) → a ≡ false → b ≡ false → (a || b) ≡ false
 one_of a b p q = rw (p, q)
 
-put_has_none : (key : List ℕ) (place : ℕ) (ms : Members) → members_have_float ms ≡ false → members_have_float (put key (number (unsigned place)) ms) ≡ false
-put_has_none key place no_members h = refl
-put_has_none key place (member other d more) h =
+put_has_none : (key : List ℕ) (address : ℕ) (ms : Members) → members_have_float ms ≡ false → members_have_float (put key (number (unsigned address)) ms) ≡ false
+put_has_none key address no_members h = refl
+put_has_none key address (member other d more) h =
     either (slice_cmp nat_cmp key other) _ _ _ h (both (has_float d) (members_have_float more) h).1
-    (one_of (has_float d) _ (both (has_float d) (members_have_float more) h).0 (put_has_none key place more (both (has_float d) (members_have_float more) h).1))
+    (one_of (has_float d) _ (both (has_float d) (members_have_float more) h).0 (put_has_none key address more (both (has_float d) (members_have_float more) h).1))
 
-entries_have_none : (keys : List Key) (places : List ℕ) (ms : Members) → members_have_float ms ≡ false → members_have_float (entry_members keys places ms) ≡ false
-entries_have_none [] places ms h = h
+entries_have_none : (keys : List Key) (addresses : List ℕ) (ms : Members) → members_have_float ms ≡ false → members_have_float (entry_members keys addresses ms) ≡ false
+entries_have_none [] addresses ms h = h
 entries_have_none (key ∷ keys) [] ms h = h
-entries_have_none (key ∷ keys) (place ∷ places) ms h = entries_have_none keys places (put (key_text key) (number (unsigned place)) ms) (put_has_none (key_text key) place ms h)
+entries_have_none (key ∷ keys) (address ∷ addresses) ms h = entries_have_none keys addresses (put (key_text key) (number (unsigned address)) ms) (put_has_none (key_text key) address ms h)
 
 pub image_has_none : (image : Image) → has_float (image_data image) ≡ false
 unfolding image_data

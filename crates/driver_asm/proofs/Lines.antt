@@ -45,7 +45,7 @@ pub text_after : (says : Result Statement AsmKind) (at : Cursor) → (cursor_aft
 text_after (Err kind) at = omega arith
 text_after (Ok statement.Nothing) at = omega arith
 text_after (Ok (statement.Class class)) at = omega arith
-text_after (Ok (statement.Entry place value)) at = omega arith
+text_after (Ok (statement.Entry index value)) at = omega arith
 text_after (Ok (statement.Section in_section)) at = omega arith
 text_after (Ok (statement.Word value)) at = elim at.in_section as (λ s. (one_word s at).text ≤ at.text + 1) [ section.Text ↦ omega arith | section.Data ↦ omega arith ]
 text_after (Ok (statement.Instr mnemonic operands)) at = elim at.in_section as (λ s. (one_word s at).text ≤ at.text + 1) [ section.Text ↦ omega arith | section.Data ↦ omega arith ]
@@ -54,7 +54,7 @@ pub initial_after : (says : Result Statement AsmKind) (at : Cursor) → (cursor_
 initial_after (Err kind) at = omega arith
 initial_after (Ok statement.Nothing) at = omega arith
 initial_after (Ok (statement.Class class)) at = omega arith
-initial_after (Ok (statement.Entry place value)) at = omega arith
+initial_after (Ok (statement.Entry index value)) at = omega arith
 initial_after (Ok (statement.Section in_section)) at = omega arith
 initial_after (Ok (statement.Word value)) at = elim at.in_section as (λ s. (one_word s at).initial ≤ at.initial + 1) [ section.Text ↦ omega arith | section.Data ↦ omega arith ]
 initial_after (Ok (statement.Instr mnemonic operands)) at = elim at.in_section as (λ s. (one_word s at).initial ≤ at.initial + 1) [ section.Text ↦ omega arith | section.Data ↦ omega arith ]
@@ -67,7 +67,7 @@ pub line_after : (says : Result Statement AsmKind) (at : Cursor) → (cursor_aft
 line_after (Err kind) at = refl
 line_after (Ok statement.Nothing) at = refl
 line_after (Ok (statement.Class class)) at = refl
-line_after (Ok (statement.Entry place value)) at = refl
+line_after (Ok (statement.Entry index value)) at = refl
 line_after (Ok (statement.Section in_section)) at = refl
 line_after (Ok (statement.Word value)) at = one_word_line at.in_section at
 line_after (Ok (statement.Instr mnemonic operands)) at = one_word_line at.in_section at
@@ -90,7 +90,7 @@ pub lines_split : (lines : List (Bor (List ℕ))) (i : ℕ) (d : Bor (List ℕ))
     → map (λ line. line.now) (drop i lines) ≡ (get_or lines i d).now ∷ map (λ line. line.now) (drop (i + 1) lines)
 lines_split lines i d inside = rw (drop-cons lines i d inside, add-one) refl
 
--- ---- first pass, by the lines that are left
+-- ---- first pass, by the remaining lines
 
 pub line_next : (says : Result Statement AsmKind) (at next : Cursor) → next ≡ next_line (cursor_after says at) → next.line ≡ at.line + 1
 line_next says at next h = ap (λ p. p.line) h ∙ ap (λ n. n + 1) (line_after says at)
@@ -119,7 +119,7 @@ labels_done labels at lines i whole past h =
     ∙ ap (λ ls. labels ++ labels_from at (map (λ line. line.now) ls)) (sym (drop_all i lines past))
     ∙ h
 
--- ---- second pass, by the lines that are left
+-- ---- second pass, by the remaining lines
 
 pub draft_more : (labels : Labels) (n i : ℕ) (lines : List (Bor (List ℕ))) (d : Bor (List ℕ)) (draft next : Draft) (whole : Result Draft AsmFault) → i < length lines
     → at_line n (draft_after labels n (tokens_of (get_or lines i d).now) draft) ≡ Ok next
@@ -175,10 +175,10 @@ pub whole_by : (text : List ℕ) (items first second third : List (Bor (List ℕ
     → draft_from (first_of labels) 1 (bytes_of second) first_draft ≡ Ok draft
     → line ≡ length (bytes_of third) + 1
     → assembled text ≡ at_line line (image_with draft.class (all_given draft.entries) draft)
-whole_by text items first second third labels draft line cut p q r same drawn behind =
+whole_by text items first second third labels draft line cut p q r same drawn rest_after =
     assembled_by text labels draft (same_labels text first labels (ap bytes_of p ∙ cut) same)
     (ap (λ ls. draft_from (first_of labels) 1 ls first_draft) (sym (ap bytes_of q ∙ cut)) ∙ drawn)
-    ∙ ap (λ n. at_line n (image_with draft.class (all_given draft.entries) draft)) (sym (behind ∙ ap (λ ls. length ls + 1) (ap bytes_of r ∙ cut)))
+    ∙ ap (λ n. at_line n (image_with draft.class (all_given draft.entries) draft)) (sym (rest_after ∙ ap (λ ls. length ls + 1) (ap bytes_of r ∙ cut)))
 
 pub whole_fails : (text : List ℕ) (items first second : List (Bor (List ℕ))) (labels : List Label) (why : AsmError)
     → bytes_of items ≡ lines_of text → first ≡ items → second ≡ items

@@ -1,4 +1,4 @@
--- Digits read one after another, the number kept at most 2^32.
+-- Digits are read one after another, and the number is capped at 2^32.
 use Rattle.std.proofs.Common.{◌≡◌, ℕ, ◌+◌, ◌*◌, ◌<◌, ◌≤◌, List, length, take, get_or, min, arith, ◌⊎◌, inl, inr, ap, ◌∙◌, sym}
 use Rattle.std.specs.Char.{digit_value}
 use Rattle.std.specs.Str.Parse.{digits_value}
@@ -7,11 +7,11 @@ use Rattle.std.proofs.Math.Nat.{mul-le-mul_left, min-eq_left, min-eq_right}
 use Rattle.std.proofs.lemmas.Bool.{cases_lt}
 use Rattle.asm_defs.specs.AsmTokens.{numeral_value}
 
--- a product with a number that is too large is too large
+-- a number that is too large stays so when multiplied
 too_large : (v base : ℕ) → 1 ≤ base → 4294967296 ≤ v → 4294967296 ≤ v * base
 too_large v base low h = omega (arith, mul-le-mul_left {m = 1} {n = base} v low)
 
--- one digit more, past 2^32 or not
+-- one more digit, whether the number has passed 2^32 or not
 capped : (v base d : ℕ) → 1 ≤ base → (4294967296 < v) ⊎ (v ≤ 4294967296) → min (min v 4294967296 * base + d) 4294967296 ≡ min (v * base + d) 4294967296
 capped v base d low (inr h) = rw (min-eq_left h)
 capped v base d low (inl over) =

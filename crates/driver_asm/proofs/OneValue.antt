@@ -1,4 +1,4 @@
--- What takes one value, by the value of the one token that there is.
+-- Statements and operands that have one value, by the value of their only token.
 use Rattle.std.proofs.Common.{◌≡◌, ℕ, List, [], ◌∷◌, refl, Some}
 use Rattle.asm_defs.specs.AsmLines.{Labels, entry_value, operands_of, operands_with, right_or_wrong, word_statement}
 use Rattle.nook_data.specs.declared.machine.Form.TheVariants as form
@@ -11,10 +11,10 @@ word_of_value labels [] = refl
 word_of_value labels (token ∷ []) = refl
 word_of_value labels (token ∷ next ∷ more) = refl
 
-pub entry_of_value : (labels : Labels) (place : ℕ) (tokens : List (List ℕ)) → entry_value labels place tokens ≡ right_or_wrong (statement.Entry place) (only_value labels tokens)
-entry_of_value labels place [] = refl
-entry_of_value labels place (token ∷ []) = refl
-entry_of_value labels place (token ∷ next ∷ more) = refl
+pub entry_of_value : (labels : Labels) (index : ℕ) (tokens : List (List ℕ)) → entry_value labels index tokens ≡ right_or_wrong (statement.Entry index) (only_value labels tokens)
+entry_of_value labels index [] = refl
+entry_of_value labels index (token ∷ []) = refl
+entry_of_value labels index (token ∷ next ∷ more) = refl
 
 pub only_operand : (labels : Labels) (tokens : List (List ℕ)) → operands_of labels form.Imm tokens ≡ operands_with (Some 0) (Some 0) (only_value labels tokens)
 unfolding operands_of

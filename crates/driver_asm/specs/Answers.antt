@@ -6,19 +6,19 @@ use Rattle.driver_asm.specs.declared.error.AsmError.TheVariants as error
 use Rattle.driver_asm.specs.declared.error.LineStop.{LineStop}
 use Rattle.driver_asm.specs.declared.error.LineStop.TheVariants as stop
 
--- What an answer of the assembler has to do with what the definitions give.
+-- How the assembler's results relate to the definitions.
 
--- a fault is the definition's; memory may be wanting at any time
+-- an error is that of the definition; memory may run out at any time
 abbrev pub Fails : {T : Type 0} → AsmError → Result T AsmFault → Type 0
 Fails error.NoMemory made = ⊤
 Fails (error.Bad kind line) made = made ≡ Err (record { kind = kind; line = line })
 
--- what was made, or the fault, is the definition's
+-- the value or the error is that of the definition
 abbrev pub Gives : {T : Type 0} → Result T AsmError → Result T AsmFault → Type 0
 Gives (Ok value) made = made ≡ Ok value
 Gives (Err why) made = Fails why made
 
--- the same for one line, whose fault is a kind
+-- the same for one line, whose error is a kind
 abbrev pub Stops : {T : Type 0} → LineStop → Result T AsmKind → Type 0
 Stops stop.NoMemory made = ⊤
 Stops (stop.Bad kind) made = made ≡ Err kind

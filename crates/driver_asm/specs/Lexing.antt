@@ -6,20 +6,20 @@ use Rattle.asm_defs.specs.declared.assembler.Operands.{Operands}
 use Rattle.asm_defs.specs.declared.assembler.Statement.{Statement}
 use Rattle.asm_defs.specs.declared.assembler.Statement.TheVariants as statement
 
--- the number that digits of a base write, where they are digits
+-- the number that digits of a base write, if they are digits
 abbrev pub numeral : ℕ → List ℕ → Option ℕ
 numeral base bytes = if is_numeral base bytes then Some (numeral_value base bytes) else None
 
--- both registers are ones that the machine has
+-- the machine has both registers
 abbrev pub names_registers : Operands → Bool
 names_registers operands = nat_le operands.a 15 && nat_le operands.b 15
 
--- a statement's registers are ones that the machine has
+-- the machine has the registers of a statement
 abbrev pub has_registers : Statement → Bool
 has_registers (statement.Instr mnemonic operands) = names_registers operands
 has_registers _ = true
 
--- the value of the one token that there is
+-- the value of the only token
 abbrev pub only_value : Labels → List (List ℕ) → Option Value
 only_value labels (token ∷ []) = value_of labels token
 only_value labels _ = None

@@ -1,5 +1,5 @@
 pub mod Lexing
-pub mod Places
+pub mod Addresses
 pub mod Answers
 pub mod Names
 pub mod Listed

@@ -12,37 +12,37 @@ use Rattle.driver_asm.specs.declared.error.AsmError.{AsmError}
 use Rattle.driver_asm.specs.declared.listed.Listed.{Listed}
 use Rattle.driver_asm.specs.declared.listed.Made.{Made}
 
--- An assembled text with where it comes from: for each word the line that made it, and the labels.
+-- An assembled text and the origin of its parts: the line that made each word, and the labels.
 
--- the words that a section has
+-- the words of a section
 abbrev pub words_in : Section → Draft → List ℕ
 words_in section.Text draft = draft.text
 words_in section.Data draft = draft.initial
 
--- the line, where it made a word
+-- the line, if it made a word
 abbrev pub line_if : Bool → ℕ → List ℕ
 line_if made line = if made then line ∷ [] else []
 
--- the line, where the section has a word more behind it
+-- the line, if it made the section longer
 abbrev pub if_longer : ℕ → List ℕ → List ℕ → List ℕ
 if_longer line before after = line_if (nat_lt (length before) (length after)) line
 
--- what comes of the draft behind a line; nothing of a line with a fault
-abbrev pub behind_draft : (Draft → List ℕ) → Result Draft AsmKind → List ℕ
-behind_draft rest (Ok next) = rest next
-behind_draft rest (Err kind) = []
+-- a list that depends on the draft after a line; empty if the line has an error
+abbrev pub after_draft : (Draft → List ℕ) → Result Draft AsmKind → List ℕ
+after_draft rest (Ok next) = rest next
+after_draft rest (Err kind) = []
 
--- the lines that make the words of a section, a number for each word and in the order of the words; the first of the
--- lines has its number
+-- the numbers of the lines that made a section's words, one for each word and in the words' order; the first line of
+-- the list has this number
 unfoldable pub makers : Section → Labels → ℕ → List (List ℕ) → Draft → List ℕ
 makers in_section labels line [] draft = []
-makers in_section labels line (first ∷ more) draft = behind_draft
+makers in_section labels line (first ∷ more) draft = after_draft
     (λ next. if_longer line (words_in in_section draft) (words_in in_section next)
     ++ makers in_section labels (line + 1) more next)
     (draft_after labels line (tokens_of first) draft)
 
 -- the image of a text with the lines of its words, counted from 1, and its labels in the order of their definitions;
--- or the text's first fault
+-- or the text's first error
 unfoldable pub listed : List ℕ → Result Listed AsmFault
 listed text = let lines = lines_of text in let labels = labels_from first_cursor lines in do
   image ← assembled text
@@ -55,7 +55,7 @@ listed text = let lines = lines_of text in let labels = labels_from first_cursor
 
 -- ---- what the code keeps
 
--- a line's draft and the lines of its words, after those before it; or the line's fault
+-- a line's draft, and the lines of the words including those before; or the line's error
 abbrev pub Grows : Result Made AsmError → Made → ℕ → Result Draft AsmKind → Type 0
 Grows (Ok made) before line after =
     (after ≡ Ok made.draft)
@@ -63,7 +63,7 @@ Grows (Ok made) before line after =
     × (made.initial_lines ≡ before.initial_lines ++ if_longer line before.draft.initial made.draft.initial)
 Grows (Err why) before line after = Fails why (at_line line after)
 
--- the draft of all lines and the lines of its words, or the first fault
+-- the draft of all lines and the lines of its words, or the first error
 abbrev pub MakesAll : Result Made AsmError → Labels → List (List ℕ) → Result Draft AsmFault → Type 0
 MakesAll (Ok made) labels lines whole =
     (whole ≡ Ok made.draft)

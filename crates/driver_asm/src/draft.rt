@@ -1,4 +1,4 @@
-//! The second pass's draft: what the lines so far have given.
+//! The draft of the second pass: what the lines so far give.
 
 ghost use Rattle.std.specs.Prelude.{◌≡◌, ◌-◌, ◌<◌, ◌≤◌, [], ◌∷◌, ◌++◌, ◌||◌, IfOk, IfSome, Ok, true, false, length};
 ghost use Rattle.std.specs.Prelude.{slice_get};
@@ -25,7 +25,7 @@ use nook_data::scenario::Image;
 use std::alloc::Global;
 use std::marker::Model;
 
-/// What the lines so far have given. `entries` has a place for each entry of the class.
+/// What the lines so far give. `entries` has an item for each entry of the class.
 #[derive(Drop)]
 pub struct Draft {
     class: Option<Class>,
@@ -50,7 +50,7 @@ impl Model for Draft {
 }
 
 impl Draft {
-    /// Nothing given yet, in the text. It takes no memory.
+    /// Nothing is given yet, and the section is the text. This allocates no memory.
     pub fn new(alloc: Global) -> Draft
         ensures { result ≡ first_draft }
     {
@@ -77,7 +77,7 @@ impl Draft {
         self.initial.len()
     }
 
-    /// The draft after a line, or the smallest kind of fault that the line has.
+    /// The draft after a line, or the line's smallest kind of error.
     #[tactic(auto, unfolding(asm_defs::specs::Assembler::draft_after))]
     pub fn after(
         self,
@@ -104,16 +104,16 @@ impl Draft {
     {
         match says {
             Statement::Class(_) => self.class.is_some(),
-            Statement::Entry { place, .. } => self.is_given(place),
+            Statement::Entry { index, .. } => self.is_given(index),
             _ => false,
         }
     }
 
-    /// Whether there is an entry at a place and it has its value.
-    fn is_given(&self, place: u32) -> bool
-        ensures { result ≡ is_given (slice_get self.now.entries place) }
+    /// Whether there is an entry with this index and it has its value.
+    fn is_given(&self, index: u32) -> bool
+        ensures { result ≡ is_given (slice_get self.now.entries index) }
     {
-        match self.entries.get(place as usize) {
+        match self.entries.get(index as usize) {
             Some(entry) => entry.is_some(),
             None => false,
         }
@@ -128,7 +128,7 @@ impl Draft {
         match says {
             Statement::Nothing => Ok(self),
             Statement::Class(class) => Ok(self.with_class(alloc, class)?),
-            Statement::Entry { place, value } => self.with_entry(place, value),
+            Statement::Entry { index, value } => self.with_entry(index, value),
             Statement::Section(in_section) => Ok(Draft { in_section, ..self }),
             Statement::Word(value) => {
                 let word = known(value)?;
@@ -155,14 +155,14 @@ impl Draft {
     }
 
     /// The draft with the value of an entry, which is in range.
-    fn with_entry(self, place: u32, value: Value) -> Result<Draft, LineStop>
+    fn with_entry(self, index: u32, value: Value) -> Result<Draft, LineStop>
         requires { is_above (TEXT_WORDS - 1) value ≡ false }
-        ensures { Takes result (with_statement (Statement.Entry place value) self) }
+        ensures { Takes result (with_statement (Statement.Entry index value) self) }
     {
         let number = known(value)?;
         let mut entries = self.entries;
-        if (place as usize) < entries.len() {
-            entries[place as usize] = Some(number as u32);
+        if (index as usize) < entries.len() {
+            entries[index as usize] = Some(number as u32);
         }
         Ok(Draft { entries, ..self })
     }
@@ -218,7 +218,7 @@ impl Draft {
     }
 }
 
-/// Whether a value is above what it may be.
+/// Whether a value is out of its range.
 fn is_out_of_range(says: Statement) -> bool
     ensures { result ≡ is_out_of_range says }
 {
@@ -230,7 +230,7 @@ fn is_out_of_range(says: Statement) -> bool
     }
 }
 
-/// Whether a known value is above the most that may stand.
+/// Whether a known value is above the most that is allowed.
 fn is_above(most: u64, value: Value) -> bool
     ensures { result ≡ is_above most value }
 {
@@ -260,14 +260,14 @@ fn known(value: Value) -> Result<u64, AsmKind>
     }
 }
 
-/// The values, where each is given.
+/// The values, if all are given.
 fn all_given(alloc: Global, entries: &[Option<Word>]) -> Result<Option<Words>, NoMemory>
     ensures { IfOk result (λ made. made ≡ all_given entries.now) }
 {
     let mut given = Words::new(alloc);
     for entry in entries {
         match entry {
-            Some(place) => given.push(*place)?,
+            Some(index) => given.push(*index)?,
             None => return Ok(None),
         }
     }

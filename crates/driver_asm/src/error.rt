@@ -6,14 +6,14 @@ use asm_defs::assembler::AsmKind;
 use nook_data::memory::NoMemory;
 use thiserror::Error;
 
-/// Why a text is not assembled.
+/// Why a text does not assemble.
 #[derive(Debug, Drop, Error)]
 pub enum AsmError {
-    /// The first fault of the text: the smallest kind that the first line with a fault has, and that line, counted
-    /// from 1. What is missing at the end stands at the line behind the last.
+    /// The first error of the text: the first line with an error, counted from 1, and the smallest kind that it has. A
+    /// missing class or entry is reported at the line after the last.
     #[error("line {line}: {kind:?}")]
     Bad { kind: AsmKind, line: u64 },
-    /// An allocation was refused.
+    /// An allocation failed.
     #[error("memory is wanting")]
     NoMemory,
 }
@@ -23,17 +23,17 @@ impl From<NoMemory> for AsmError {
 
     ghost from_gives = { λ _ error. error ≡ errors.NoMemory };
 
-    fn from(_wanting: NoMemory) -> AsmError {
+    fn from(_no_memory: NoMemory) -> AsmError {
         AsmError::NoMemory
     }
 }
 
-/// Why one line is not taken.
+/// Why a line is not accepted.
 #[derive(Drop)]
 pub enum LineStop {
-    /// The line's fault.
+    /// The line's error.
     Bad(AsmKind),
-    /// An allocation was refused.
+    /// An allocation failed.
     NoMemory,
 }
 
@@ -42,7 +42,7 @@ impl From<NoMemory> for LineStop {
 
     ghost from_gives = { λ _ stop. stop ≡ stops.NoMemory };
 
-    fn from(_wanting: NoMemory) -> LineStop {
+    fn from(_no_memory: NoMemory) -> LineStop {
         LineStop::NoMemory
     }
 }

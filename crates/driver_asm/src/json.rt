@@ -17,12 +17,12 @@ use serde_json::{Map, Value, json, put};
 use std::alloc::{AllocError, Global};
 use std::fmt::Write;
 
-/// The JSON text of an image: the compact form with keys in byte order, words as eight lower-case digits, and a line
+/// The JSON text of an image in the compact form, with keys in byte order, words as eight lower-case digits, and a line
 /// feed.
 ///
 /// # Errors
 ///
-/// Want of memory.
+/// If memory runs out.
 #[tactic(auto, unfolding(asm_defs::specs::ImageText::image_text), using(crate::proofs::Floats::image_has_none))]
 pub fn write_image(alloc: Global, image: &Image) -> Result<Words8, NoMemory>
     ensures { IfOk result (λ text. text ≡ image_text image.now) }
@@ -37,7 +37,7 @@ pub fn write_image(alloc: Global, image: &Image) -> Result<Words8, NoMemory>
 ///
 /// # Errors
 ///
-/// Want of memory.
+/// If memory runs out.
 #[tactic(auto, unfolding(asm_defs::specs::ImageText::image_data))]
 pub fn image_value(alloc: Global, image: &Image) -> Result<Value, NoMemory>
     ensures { IfOk result (λ value. view value ≡ image_data image.now) }
@@ -58,19 +58,20 @@ fn members(
 ) -> Result<Value, AllocError>
     ensures { IfOk result (λ value. view value ≡ object (member (codes "class") (string class.now)
         (member (codes "data") (view initial)
-        (member (codes "entries") (view entries) (member (codes "text") (view text) no_members))))) }
+        (member (codes "entries") (view entries)
+        (member (codes "text") (view text) no_members))))) }
 {
     json!(in alloc; {"class": class, "data": initial, "entries": entries, "text": text})
 }
 
-/// Words as texts of eight digits.
+/// Words as strings of eight digits.
 fn words_value(alloc: Global, words: &[Word]) -> Result<Value, NoMemory>
     ensures { IfOk result (λ value. view value ≡ array (word_items words.now)) }
 {
     Ok(Value::Array(hex_values(alloc, words)?))
 }
 
-/// A text for each word.
+/// A string for each word.
 fn hex_values(alloc: Global, words: &[Word]) -> Result<Vec<Value>, NoMemory>
     ensures { IfOk result (λ values. map view values.items ≡ map hex_data words.now) }
 {
@@ -81,7 +82,7 @@ fn hex_values(alloc: Global, words: &[Word]) -> Result<Vec<Value>, NoMemory>
     Ok(values)
 }
 
-/// The text of a word.
+/// The string of a word.
 fn hex_value(alloc: Global, word: Word) -> Result<Value, NoMemory>
     ensures { IfOk result (λ value. view value ≡ hex_data word) }
 {
@@ -94,7 +95,7 @@ fn hex_value(alloc: Global, word: Word) -> Result<Value, NoMemory>
 ///
 /// # Errors
 ///
-/// Want of memory.
+/// If memory runs out.
 pub fn push_digits(text: &mut String, count: u32, word: Word) -> Result<(), NoMemory>
     ensures { OnOk result (string_bytes text.new ≡ string_bytes text.old ++ hex_text count word) }
 {
@@ -109,33 +110,36 @@ pub fn push_digits(text: &mut String, count: u32, word: Word) -> Result<(), NoMe
 #[tactic(auto, using(std::proofs::lemmas::Fmt::hex_one_digit))]
 fn push_digit(text: &mut String, digit: Word) -> Result<(), NoMemory>
     requires { digit < 16 }
-    ensures { OnOk result (string_bytes text.new ≡ string_bytes text.old ++ digit_glyph false digit ∷ []) }
+    ensures { OnOk result
+        (string_bytes text.new ≡ string_bytes text.old ++ digit_glyph false digit ∷ []) }
 {
     write!(text, "{digit:x}")?;
     Ok(())
 }
 
-/// The entries and their places.
-fn entries_value(alloc: Global, class: Class, places: &[Word]) -> Result<Value, NoMemory>
-    ensures { IfOk result (λ value. view value ≡ object (entry_members (entry_keys class) places.now no_members)) }
+/// The entries and their addresses.
+fn entries_value(alloc: Global, class: Class, addresses: &[Word]) -> Result<Value, NoMemory>
+    ensures { IfOk result
+        (λ value. view value ≡ object (entry_members (entry_keys class) addresses.now no_members)) }
 {
-    Ok(Value::Object(entries_at(alloc, entry_keys(class), places)?))
+    Ok(Value::Object(entries_at(alloc, entry_keys(class), addresses)?))
 }
 
-/// Some entries and their places.
+/// Some entries and their addresses.
 fn entries_at(
     alloc: Global,
     entries: &[Key],
-    places: &[Word],
+    addresses: &[Word],
 ) -> Result<Map<String, Value>, NoMemory>
-    ensures { IfOk result (λ made. members_view made.entries ≡ entry_members entries.now places.now no_members) }
+    ensures { IfOk result
+        (λ made. members_view made.entries ≡ entry_members entries.now addresses.now no_members) }
 {
     let mut made = Map::new(alloc);
-    let mut rest = places;
+    let mut rest = addresses;
     for entry in entries {
         match rest.split_first() {
-            Some((place, more)) => {
-                put(&mut made, alloc, key_text(*entry), Value::from(*place))?;
+            Some((address, more)) => {
+                put(&mut made, alloc, key_text(*entry), Value::from(*address))?;
                 rest = more;
             }
             None => return Ok(made),

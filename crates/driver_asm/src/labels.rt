@@ -6,7 +6,7 @@ ghost use Rattle.asm_defs.specs.Views.Assembling.{label_value, no_labels};
 ghost use Rattle.asm_defs.specs.Assembler.{label_of};
 ghost use Rattle.asm_defs.specs.Views.Assembling.{is_other_line};
 
-use crate::line::NextPlaces;
+use crate::line::NextAddresses;
 use crate::tokens::register_named;
 use asm_defs::assembler::{Label, Value};
 use nook_data::lists::{Items, Words8};
@@ -30,7 +30,7 @@ impl Model for LabelTable {
 }
 
 impl LabelTable {
-    /// No label. It takes no memory.
+    /// No labels. This allocates no memory.
     pub fn new(alloc: Global) -> LabelTable
         ensures { result ≡ [] }
     {
@@ -39,9 +39,9 @@ impl LabelTable {
         }
     }
 
-    /// Defines a name where the next word goes. A name that is defined keeps its definition, and a register's name
-    /// is never defined.
-    pub fn define(&mut self, alloc: Global, name: &[u8], at: &NextPlaces) -> Result<(), NoMemory>
+    /// Defines a name as the address of the next word. A name keeps its first definition, and a register's name is
+    /// never defined.
+    pub fn define(&mut self, alloc: Global, name: &[u8], at: &NextAddresses) -> Result<(), NoMemory>
         requires { at.now.initial < 2 ^ 63 }
         ensures { OnOk result (self.new ≡ self.old ++ label_of (Some name.now) at.now) }
     {
@@ -50,7 +50,7 @@ impl LabelTable {
         }
         let label = Label {
             name: owned(alloc, name)?,
-            place: at.place(),
+            address: at.address(),
             line: at.line(),
         };
         self.labels.push(label)
@@ -63,14 +63,14 @@ impl LabelTable {
         self.labels
     }
 
-    /// The place of a label, where it is defined.
+    /// The address of a label, if it is defined.
     pub fn value(&self, name: &[u8]) -> Value
         ensures { result ≡ label_value (first_of self.now name.now) }
     {
         for label in self.labels.as_slice() {
             if name == label.name.as_slice() {
                 return Value::Known {
-                    number: label.place,
+                    number: label.address,
                 };
             }
         }

@@ -1,23 +1,23 @@
-//! Where the next words go, and what a line does to that.
+//! Where the next words go, and how a line changes that.
 
 ghost use Rattle.std.specs.Prelude.{◌≡◌, ◌<◌, ◌^◌, ◌+◌, ◌≤◌, ℕ, Result};
-ghost use Rattle.asm_defs.specs.Assembler.{first_cursor, one_word, place_in, cursor_after};
+ghost use Rattle.asm_defs.specs.Assembler.{first_cursor, one_word, address_in, cursor_after};
 ghost use Rattle.asm_defs.specs.Views.Assembling.{next_line};
 
 use asm_defs::assembler::{AsmKind, Section, Statement};
 use nook_data::memory_map::DATA_START;
 use std::marker::Model;
 
-/// Where the next words go: the line, its section, and the words that each section has so far.
+/// Where the next words go: the line, its section, and how many words each section has so far.
 #[derive(Drop)]
-pub struct NextPlaces {
+pub struct NextAddresses {
     line: u64,
     in_section: Section,
     text: u64,
     initial: u64,
 }
 
-impl Model for NextPlaces {
+impl Model for NextAddresses {
     ghost use Rattle.asm_defs.specs.Assembler.{Cursor};
 
     ghost Value = { Cursor };
@@ -25,12 +25,12 @@ impl Model for NextPlaces {
     ghost view = { λ s. record { line = s.line; in_section = s.in_section; text = s.text; initial = s.initial } };
 }
 
-impl NextPlaces {
-    /// Those at the first line.
-    pub fn new() -> NextPlaces
+impl NextAddresses {
+    /// The state at the first line.
+    pub fn new() -> NextAddresses
         ensures { result ≡ first_cursor }
     {
-        NextPlaces {
+        NextAddresses {
             line: 1,
             in_section: Section::Text,
             text: 0,
@@ -52,10 +52,10 @@ impl NextPlaces {
         self.in_section
     }
 
-    /// The place of the next word; initial words come behind the 2,048 words of the text.
-    pub fn place(&self) -> u64
+    /// The address of the next word; initial words follow the 2,048 words of the text.
+    pub fn address(&self) -> u64
         requires { self.now.initial < 2 ^ 63 }
-        ensures { result ≡ place_in self.now.in_section self.now }
+        ensures { result ≡ address_in self.now.in_section self.now }
     {
         match self.in_section {
             Section::Text => self.text,
@@ -63,44 +63,44 @@ impl NextPlaces {
         }
     }
 
-    /// Those behind a line that says this, or has a fault.
-    pub fn after(self, says: Result<Statement, AsmKind>) -> NextPlaces
+    /// The state after a line that says this, or has an error.
+    pub fn after(self, says: Result<Statement, AsmKind>) -> NextAddresses
         requires line { self.line < 2 ^ 63 }
         requires text { self.text < 2 ^ 63 }
         requires initial { self.initial < 2 ^ 63 }
         ensures { result ≡ next_line (cursor_after says self) }
     {
         match says {
-            Ok(Statement::Section(in_section)) => NextPlaces { in_section, ..self }.next_line(),
+            Ok(Statement::Section(in_section)) => NextAddresses { in_section, ..self }.next_line(),
             Ok(Statement::Word(_) | Statement::Instr(..)) => self.one_word().next_line(),
             _ => self.next_line(),
         }
     }
 
-    /// Those with one word more in the section.
-    fn one_word(self) -> NextPlaces
+    /// The state after one more word in the section.
+    fn one_word(self) -> NextAddresses
         requires text { self.text < 2 ^ 63 }
         requires initial { self.initial < 2 ^ 63 }
         ensures { result ≡ one_word self.in_section self }
     {
         match self.in_section {
-            Section::Text => NextPlaces {
+            Section::Text => NextAddresses {
                 text: self.text + 1,
                 ..self
             },
-            Section::Data => NextPlaces {
+            Section::Data => NextAddresses {
                 initial: self.initial + 1,
                 ..self
             },
         }
     }
 
-    /// Those one line further.
-    fn next_line(self) -> NextPlaces
+    /// The state one line further.
+    fn next_line(self) -> NextAddresses
         requires { self.line < 2 ^ 63 }
         ensures { result ≡ next_line self }
     {
-        NextPlaces {
+        NextAddresses {
             line: self.line + 1,
             ..self
         }

@@ -1,4 +1,4 @@
-//! A text with where each of its words and labels comes from.
+//! An assembled text with the origin of each of its words and labels.
 
 ghost use Rattle.std.specs.Prelude.{◌≡◌, ◌++◌, ◌<◌, IfOk, map};
 ghost use Rattle.asm_defs.specs.AsmLines.{first_of};
@@ -10,7 +10,7 @@ ghost use Rattle.driver_asm.specs.Listed.{Grows, MakesAll, line_if, listed};
 use crate::draft::Draft;
 use crate::error::AsmError;
 use crate::labels::LabelTable;
-use crate::passes::{after_line, at_line, labels_of, line_behind};
+use crate::passes::{after_line, at_line, labels_of, line_following};
 use crate::pieces::lines_of;
 use asm_defs::assembler::Label;
 use nook_data::lists::Items;
@@ -30,7 +30,7 @@ pub struct Listed {
     pub labels: Items<Label>,
 }
 
-/// What the lines so far have given, and which of them made the words.
+/// What the lines so far give, and which of them made the words.
 #[derive(Drop)]
 struct Made {
     draft: Draft,
@@ -38,7 +38,7 @@ struct Made {
     initial_lines: Items<u64>,
 }
 
-/// Assembles a text of bytes, and tells which line made each word.
+/// Assembles a text of bytes, and reports which line made each word.
 ///
 /// # Errors
 ///
@@ -50,7 +50,7 @@ pub fn assemble_listed(alloc: Global, text: &[u8]) -> Result<Listed, AsmError>
     let lines = lines_of(alloc, text)?;
     let labels = labels_of(alloc, &lines)?;
     let made = made_of(alloc, &labels, &lines)?;
-    let image = at_line(line_behind(&lines), made.draft.into_image(alloc))?;
+    let image = at_line(line_following(&lines), made.draft.into_image(alloc))?;
     Ok(Listed {
         image,
         text_lines: made.text_lines,
@@ -59,7 +59,7 @@ pub fn assemble_listed(alloc: Global, text: &[u8]) -> Result<Listed, AsmError>
     })
 }
 
-/// The second pass: the draft after all lines, and which of them made its words.
+/// The second pass: the draft after all lines, and which lines made its words.
 fn made_of(alloc: Global, labels: &LabelTable, lines: &[&[u8]]) -> Result<Made, AsmError>
     ensures { MakesAll result (first_of labels.now) (map (λ line. line.now) lines.now)
         (draft_from (first_of labels.now) 1 (map (λ line. line.now) lines.now) first_draft) }
@@ -71,22 +71,23 @@ fn made_of(alloc: Global, labels: &LabelTable, lines: &[&[u8]]) -> Result<Made, 
     };
     let mut number = 1u64;
     for line in lines {
-        made = made.behind_line(alloc, labels, number, line)?;
+        made = made.following_line(alloc, labels, number, line)?;
         number += 1;
     }
     Ok(made)
 }
 
 impl Made {
-    /// What is given behind a line, or its fault at the line.
-    fn behind_line(
+    /// The state after a line, or its error at that line.
+    fn following_line(
         self,
         alloc: Global,
         labels: &LabelTable,
         number: u64,
         line: &[u8],
     ) -> Result<Made, AsmError>
-        ensures { Grows result self number (draft_after (first_of labels.now) number (tokens_of line.now) self.draft) }
+        ensures { Grows result self number
+            (draft_after (first_of labels.now) number (tokens_of line.now) self.draft) }
     {
         let text_len = self.draft.text_len();
         let initial_len = self.draft.initial_len();
@@ -105,7 +106,7 @@ impl Made {
     }
 }
 
-/// The lines, and this one behind them where it made a word.
+/// The lines, followed by this one if it made a word.
 fn with_line(lines: Items<u64>, made: bool, number: u64) -> Result<Items<u64>, NoMemory>
     ensures { IfOk result (λ longer. longer ≡ lines ++ line_if made number) }
 {

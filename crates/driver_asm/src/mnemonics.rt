@@ -6,7 +6,7 @@ ghost use Rattle.machine_defs.specs.Mnemonics.{mnemonic_named, mnemonic_text, fo
 use nook_data::machine::{Form, Instr, Mnemonic};
 use std::marker::Model;
 
-/// The mnemonic of a name.
+/// The mnemonic that a name denotes.
 #[tactic(auto, unfolding(machine_defs::specs::Mnemonics::mnemonic_named))]
 pub fn mnemonic_named(name: &[u8]) -> Option<Mnemonic>
     ensures { result ≡ mnemonic_named name.now }
@@ -98,7 +98,7 @@ pub fn form_of(mnemonic: Mnemonic) -> Form
     }
 }
 
-/// The instruction of a mnemonic and its operands; those that its form does not have are not read.
+/// The instruction of a mnemonic and its operands; operands that its form lacks are ignored.
 pub fn instr_with(mnemonic: Mnemonic, a: u8, b: u8, imm: u16) -> Instr
     ensures { result ≡ instr_with mnemonic a b imm }
 {
@@ -130,7 +130,7 @@ pub fn instr_with(mnemonic: Mnemonic, a: u8, b: u8, imm: u16) -> Instr
     }
 }
 
-/// An instruction as a mnemonic and operands, 0 where its form has none.
+/// An instruction as a mnemonic and operands; those that its form lacks are 0.
 #[derive(Drop)]
 pub struct Fields {
     pub mnemonic: Mnemonic,

@@ -11,7 +11,7 @@ use crate::tokens::{Token, register_named};
 use asm_defs::assembler::{Operands, TokenKind, Value};
 use nook_data::machine::Form;
 
-/// The value of a token: a number, or the place of a label. A register's name is no label.
+/// The value of a token: a number, or the address of a label. A register's name cannot be a label.
 #[tactic(auto, unfolding(asm_defs::specs::AsmLines::value_of))]
 pub fn value_of(labels: &LabelTable, token: &Token) -> Option<Value>
     ensures { result ≡ value_of (first_of labels.now) token.now }
@@ -25,7 +25,7 @@ pub fn value_of(labels: &LabelTable, token: &Token) -> Option<Value>
     }
 }
 
-/// Registers and a value, where each is right.
+/// Registers and a value, if all are right.
 fn operands_with(a: Option<u8>, b: Option<u8>, imm: Option<Value>) -> Option<Operands>
     requires first { IfSome a (λ register. register ≤ 15) }
     requires second { IfSome b (λ register. register ≤ 15) }
@@ -39,7 +39,7 @@ fn operands_with(a: Option<u8>, b: Option<u8>, imm: Option<Value>) -> Option<Ope
     })
 }
 
-/// The immediate of a form that has none.
+/// The immediate of a form without one.
 fn no_value() -> Option<Value>
     ensures { result ≡ no_value }
 {
@@ -70,7 +70,7 @@ fn one_register(labels: &LabelTable, tokens: &[Token]) -> Option<Operands>
     }
 }
 
-/// The value of the one token that there is.
+/// The value of the only token.
 pub fn only_value(labels: &LabelTable, tokens: &[Token]) -> Option<Value>
     ensures { result ≡ only_value (first_of labels.now) tokens.now }
 {
@@ -133,7 +133,7 @@ fn registers_and_value(labels: &LabelTable, tokens: &[Token]) -> Option<Operands
     }
 }
 
-/// The operands of a form; `None` where there are more or fewer, or one is of another sort.
+/// The operands of a form; `None` if there are more or fewer, or one is of the wrong kind.
 pub fn operands_of(labels: &LabelTable, which: Form, tokens: &[Token]) -> Option<Operands>
     ensures operands { result ≡ operands_of (first_of labels.now) which tokens.now }
     ensures registers { IfSome result (λ operands. names_registers operands ≡ true) }

@@ -13,7 +13,7 @@ ghost use Rattle.driver_asm.specs.Answers.{Gives, Takes};
 use crate::draft::Draft;
 use crate::error::{AsmError, LineStop};
 use crate::labels::LabelTable;
-use crate::line::NextPlaces;
+use crate::line::NextAddresses;
 use crate::pieces::{lines_of, tokens_of};
 use crate::statements::{definition_of, line_says};
 use crate::tokens::Token;
@@ -25,8 +25,8 @@ use std::alloc::Global;
 ///
 /// # Errors
 ///
-/// `Bad` with the first line that has a fault, counted from 1, and the smallest kind of fault that it has. A class or
-/// an entry that is missing stands at the line behind the last. `NoMemory` where an allocation is refused.
+/// `Bad` with the first line that has an error, counted from 1, and the smallest kind of error that it has. A missing
+/// class or entry is reported at the line after the last. `NoMemory` if an allocation fails.
 #[tactic(auto, unfolding(asm_defs::specs::Assembler::assembled))]
 pub fn assemble(alloc: Global, text: &[u8]) -> Result<Image, AsmError>
     ensures { Gives result (assembled text.now) }
@@ -34,11 +34,11 @@ pub fn assemble(alloc: Global, text: &[u8]) -> Result<Image, AsmError>
     let lines = lines_of(alloc, text)?;
     let labels = labels_of(alloc, &lines)?;
     let draft = draft_of(alloc, &labels, &lines)?;
-    at_line(line_behind(&lines), draft.into_image(alloc))
+    at_line(line_following(&lines), draft.into_image(alloc))
 }
 
-/// The number of the line behind the last.
-pub fn line_behind(lines: &[&[u8]]) -> u64
+/// The number of the line after the last.
+pub fn line_following(lines: &[&[u8]]) -> u64
     ensures { result ≡ length (map (λ line. line.now) lines.now) + 1 }
 {
     lines.len() as u64 + 1
@@ -46,30 +46,33 @@ pub fn line_behind(lines: &[&[u8]]) -> u64
 
 /// The first pass: the labels that the lines define.
 pub fn labels_of(alloc: Global, lines: &[&[u8]]) -> Result<LabelTable, NoMemory>
-    ensures { IfOk result (λ labels. labels ≡ labels_from first_cursor (map (λ line. line.now) lines.now)) }
+    ensures { IfOk result
+        (λ labels. labels ≡ labels_from first_cursor (map (λ line. line.now) lines.now)) }
 {
     let mut labels = LabelTable::new(alloc);
-    let mut at = NextPlaces::new();
+    let mut at = NextAddresses::new();
     for line in lines {
-        at = behind_line(alloc, &mut labels, at, line)?;
+        at = following_line(alloc, &mut labels, at, line)?;
     }
     Ok(labels)
 }
 
-/// Defines the label of a line, and gives where the words behind the line go. No place hangs on a label's value or on
-/// the class.
-fn behind_line(
+/// Defines the label of a line and returns where the words after the line go. No address depends on a label's value or
+/// on the class.
+fn following_line(
     alloc: Global,
     labels: &mut LabelTable,
-    at: NextPlaces,
+    at: NextAddresses,
     line: &[u8],
-) -> Result<NextPlaces, NoMemory>
+) -> Result<NextAddresses, NoMemory>
     requires line { at.line < 2 ^ 63 }
     requires text { at.text < 2 ^ 63 }
     requires initial { at.initial < 2 ^ 63 }
-    ensures labels { OnOk result (labels.new ≡ labels.old ++ label_of (definition_of (tokens_of line.now)) at) }
-    ensures places { IfOk result (λ next. next
-        ≡ next_line (cursor_after (line_says no_labels None at.in_section (tokens_of line.now)) at)) }
+    ensures labels { OnOk result
+        (labels.new ≡ labels.old ++ label_of (definition_of (tokens_of line.now)) at) }
+    ensures addresses { IfOk result (λ next. next
+        ≡ next_line (cursor_after
+        (line_says no_labels None at.in_section (tokens_of line.now)) at)) }
 {
     let tokens = tokens_of(alloc, line)?;
     define_label(alloc, labels, &at, &tokens)?;
@@ -77,11 +80,11 @@ fn behind_line(
     Ok(at.after(says))
 }
 
-/// Defines the label of a line's tokens, where there is one.
+/// Defines the label of a line's tokens, if there is one.
 fn define_label(
     alloc: Global,
     labels: &mut LabelTable,
-    at: &NextPlaces,
+    at: &NextAddresses,
     tokens: &[Token],
 ) -> Result<(), NoMemory>
     requires { at.now.initial < 2 ^ 63 }
@@ -96,7 +99,8 @@ fn define_label(
 /// The second pass: the draft after all lines.
 #[tactic(auto, unfolding(asm_defs::specs::Assembler::draft_from))]
 fn draft_of(alloc: Global, labels: &LabelTable, lines: &[&[u8]]) -> Result<Draft, AsmError>
-    ensures { Gives result (draft_from (first_of labels.now) 1 (map (λ line. line.now) lines.now) first_draft) }
+    ensures { Gives result
+        (draft_from (first_of labels.now) 1 (map (λ line. line.now) lines.now) first_draft) }
 {
     let mut draft = Draft::new(alloc);
     let mut number = 1u64;
@@ -107,7 +111,7 @@ fn draft_of(alloc: Global, labels: &LabelTable, lines: &[&[u8]]) -> Result<Draft
     Ok(draft)
 }
 
-/// The draft after a line, or its fault at the line.
+/// The draft after a line, or its error at that line.
 pub fn after_line(
     alloc: Global,
     labels: &LabelTable,
@@ -115,13 +119,14 @@ pub fn after_line(
     line: &[u8],
     draft: Draft,
 ) -> Result<Draft, AsmError>
-    ensures { Gives result (at_line number (draft_after (first_of labels.now) number (tokens_of line.now) draft)) }
+    ensures { Gives result
+        (at_line number (draft_after (first_of labels.now) number (tokens_of line.now) draft)) }
 {
     let tokens = tokens_of(alloc, line)?;
     at_line(number, draft.after(alloc, labels, number, &tokens))
 }
 
-/// A fault at a line.
+/// An error at a line.
 pub fn at_line<T: Drop>(line: u64, made: Result<T, LineStop>) -> Result<T, AsmError>
     ensures { (given : Result T AsmKind) → Takes made given → Gives result (at_line line given) }
 {

@@ -1,4 +1,4 @@
-//! A text cut into lines, and a line into tokens.
+//! Splits a text into lines, and a line into tokens.
 
 ghost use Rattle.std.specs.Prelude.{◌≡◌, ℕ, List, [], ◌∷◌, ◌++◌, IfOk, OnOk, take_while, filter, map, take, length};
 ghost use Rattle.std.specs.List.{slice_split};
@@ -9,7 +9,7 @@ use crate::tokens::{Token, is_separator};
 use nook_data::memory::NoMemory;
 use std::alloc::{AllocError, Global};
 
-/// The lines of a text: behind the last line feed there is one only where something stands there.
+/// The lines of a text. After the last line feed a line follows only if it has a byte.
 #[tactic(auto, unfolding(asm_defs::specs::AsmTokens::lines_of))]
 pub fn lines_of<'a>(alloc: Global, text: &'a [u8]) -> Result<Vec<&'a [u8]>, NoMemory>
     ensures { IfOk result (λ made. map (λ line. line.now) made.items ≡ lines_of text.now) }
@@ -21,12 +21,13 @@ pub fn lines_of<'a>(alloc: Global, text: &'a [u8]) -> Result<Vec<&'a [u8]>, NoMe
 
 /// The pieces between line feeds.
 fn cut_at_line_feeds(alloc: Global, text: &[u8]) -> Result<Vec<&[u8]>, AllocError>
-    ensures { IfOk result (λ made. map (λ piece. piece.now) made.items ≡ slice_split is_line_feed text.now) }
+    ensures { IfOk result
+        (λ made. map (λ piece. piece.now) made.items ≡ slice_split is_line_feed text.now) }
 {
     text.split(|byte| *byte == b'\n').collect(alloc)
 }
 
-/// Takes the last piece away, where it is empty.
+/// Removes the last piece if it is empty.
 fn drop_empty_last(pieces: &mut Vec<&[u8]>)
     ensures { map (λ piece. piece.now) pieces.new.items
         ≡ without_empty_last (map (λ piece. piece.now) pieces.old.items) }
@@ -55,12 +56,13 @@ pub fn tokens_of<'a>(alloc: Global, line: &'a [u8]) -> Result<Vec<Token<'a>>, No
 
 /// The pieces between separators.
 fn cut_at_separators(alloc: Global, text: &[u8]) -> Result<Vec<&[u8]>, AllocError>
-    ensures { IfOk result (λ made. map (λ piece. piece.now) made.items ≡ slice_split is_separator text.now) }
+    ensures { IfOk result
+        (λ made. map (λ piece. piece.now) made.items ≡ slice_split is_separator text.now) }
 {
     text.split(|byte| is_separator(*byte)).collect(alloc)
 }
 
-/// What stands before the comment of a line.
+/// The bytes before the comment of a line.
 fn before_comment(line: &[u8]) -> &[u8]
     ensures { result.now ≡ take_while is_before_comment line.now }
 {

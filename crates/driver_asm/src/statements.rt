@@ -1,15 +1,15 @@
-//! What a line says, or the smallest of its faults that hang on the line alone.
+//! What a line says, or the smallest of its errors that depend only on the line.
 
 ghost use Rattle.std.specs.Prelude.{◌≡◌, ◌≤◌, length, drop, IfOk, IfSome, Result, Some, None, true, false};
 ghost use Rattle.std.specs.Prelude.{if◌then◌else◌, map, option_map};
-ghost use Rattle.asm_defs.specs.AsmLines.{bare_statement, behind_definition, behind_name, class_statement};
+ghost use Rattle.asm_defs.specs.AsmLines.{bare_statement, after_definition, after_name, class_statement};
 ghost use Rattle.asm_defs.specs.AsmLines.{definition_of, directive_statement, entry_statement, entry_value};
 ghost use Rattle.asm_defs.specs.AsmLines.{has_bad_token, instr_statement, is_definition, line_says, operands_of};
 ghost use Rattle.asm_defs.specs.AsmLines.{right_or_wrong, statement_of, word_statement};
 ghost use Rattle.asm_defs.specs.Views.Assembling.{at_most_wrong, class_by, entry_by, is_bad, named_statement};
 ghost use Rattle.asm_defs.specs.Views.Assembling.{statement_by};
 ghost use Rattle.asm_defs.specs.AsmTokens.{but_last, is_register, kind_of};
-ghost use Rattle.asm_defs.specs.AsmLines.{first_of, place_among};
+ghost use Rattle.asm_defs.specs.AsmLines.{first_of, position_among};
 ghost use Rattle.nook_data.specs.ClassNames.{class_named};
 ghost use Rattle.asm_defs.specs.Keys.{entry_keys};
 ghost use Rattle.machine_defs.specs.Mnemonics.{form_of, mnemonic_named};
@@ -17,7 +17,7 @@ ghost use Rattle.asm_defs.specs.declared.assembler.Statement.TheVariants as stat
 ghost use Rattle.std.specs.Option.{option_map_or};
 ghost use Rattle.driver_asm.specs.Lexing.{has_registers};
 
-use crate::entries::entry_place;
+use crate::entries::entry_address;
 use crate::labels::LabelTable;
 use crate::mnemonics::{form_of, mnemonic_named};
 use crate::operands::{only_value, operands_of};
@@ -26,7 +26,7 @@ use asm_defs::assembler::{AsmKind, Section, Statement, TokenKind};
 use nook_data::classes::{Class, class_named};
 use nook_data::machine::Mnemonic;
 
-/// An instruction, which stands in the text alone.
+/// An instruction, which may occur only in the text section.
 fn instr_statement(
     labels: &LabelTable,
     section: Section,
@@ -58,14 +58,15 @@ fn text_statement(
     }
 }
 
-/// A statement whose first token is a name, which must be a mnemonic.
+/// A statement whose first token is a name; the name must be a mnemonic.
 fn named_statement(
     labels: &LabelTable,
     section: Section,
     name: &Token,
     rest: &[Token],
 ) -> Result<Statement, AsmKind>
-    ensures says { result ≡ named_statement (first_of labels.now) section (mnemonic_named name.now) rest.now }
+    ensures says { result
+        ≡ named_statement (first_of labels.now) section (mnemonic_named name.now) rest.now }
     ensures registers { IfOk result (λ says. has_registers says ≡ true) }
 {
     match mnemonic_named(name.bytes()) {
@@ -108,7 +109,7 @@ fn class_statement(rest: &[Token]) -> Result<Statement, AsmKind>
     }
 }
 
-/// `.class` and a token: a name that is no class is told before operands that are too many.
+/// `.class` and a token; a name that is no class is reported before excess operands.
 fn class_by(name: &Token, more: &[Token]) -> Result<Statement, AsmKind>
     ensures says { result ≡ class_by (kind_of name.now) (class_named name.now) more.now }
     ensures registers { IfOk result (λ says. has_registers says ≡ true) }
@@ -124,17 +125,17 @@ fn class_by(name: &Token, more: &[Token]) -> Result<Statement, AsmKind>
 
 /// The one value of an entry.
 #[tactic(auto, using(crate::proofs::OneValue::entry_of_value))]
-fn entry_value(labels: &LabelTable, place: u32, rest: &[Token]) -> Result<Statement, AsmKind>
-    ensures says { result ≡ entry_value (first_of labels.now) place rest.now }
+fn entry_value(labels: &LabelTable, index: u32, rest: &[Token]) -> Result<Statement, AsmKind>
+    ensures says { result ≡ entry_value (first_of labels.now) index rest.now }
     ensures registers { IfOk result (λ says. has_registers says ≡ true) }
 {
     match only_value(labels, rest) {
-        Some(value) => Ok(Statement::Entry { place, value }),
+        Some(value) => Ok(Statement::Entry { index, value }),
         None => Err(AsmKind::WrongOperands),
     }
 }
 
-/// `.entry` and a token: a name that the class does not have is told before operands that are too few or too many.
+/// `.entry` and a token; a name that the class lacks is reported before too few or too many operands.
 fn entry_by(
     labels: &LabelTable,
     class: Class,
@@ -142,12 +143,12 @@ fn entry_by(
     more: &[Token],
 ) -> Result<Statement, AsmKind>
     ensures says { result ≡ entry_by (first_of labels.now) (kind_of name.now)
-        (place_among 0 (entry_keys class) name.now) more.now }
+        (position_among 0 (entry_keys class) name.now) more.now }
     ensures registers { IfOk result (λ says. has_registers says ≡ true) }
 {
     match name.kind() {
-        TokenKind::Name => match entry_place(class, name.bytes()) {
-            Some(place) => entry_value(labels, place, more),
+        TokenKind::Name => match entry_address(class, name.bytes()) {
+            Some(index) => entry_value(labels, index, more),
             None => Err(AsmKind::UnknownName),
         },
         _ => Err(AsmKind::WrongOperands),
@@ -197,7 +198,7 @@ fn directive_statement(
     }
 }
 
-/// A statement of a first token and the tokens behind it.
+/// A statement, from its first token and the tokens after that.
 fn statement_by(
     labels: &LabelTable,
     class: Option<Class>,
@@ -205,7 +206,8 @@ fn statement_by(
     first: &Token,
     rest: &[Token],
 ) -> Result<Statement, AsmKind>
-    ensures says { result ≡ statement_by (kind_of first.now) (first_of labels.now) class section first.now rest.now }
+    ensures says { result
+        ≡ statement_by (kind_of first.now) (first_of labels.now) class section first.now rest.now }
     ensures registers { IfOk result (λ says. has_registers says ≡ true) }
 {
     match first.kind() {
@@ -215,7 +217,7 @@ fn statement_by(
     }
 }
 
-/// What the tokens behind the definition say.
+/// What the tokens after the definition say.
 #[tactic(auto, unfolding(asm_defs::specs::AsmLines::statement_of))]
 fn statement_of(
     labels: &LabelTable,
@@ -232,7 +234,7 @@ fn statement_of(
     }
 }
 
-/// The name that a line defines, a register's too.
+/// The name that a line defines, even a register's.
 pub fn definition_of<'a>(tokens: &[Token<'a>]) -> Option<&'a [u8]>
     ensures { option_map (λ name. name.now) result ≡ definition_of tokens.now }
 {
@@ -264,17 +266,17 @@ fn but_last(bytes: &[u8]) -> &[u8]
     }
 }
 
-/// The tokens behind the definition.
-fn behind_definition<'t, 'a>(tokens: &'t [Token<'a>]) -> &'t [Token<'a>]
-    ensures { result.now ≡ behind_definition tokens.now }
+/// The tokens after the definition.
+fn after_definition<'t, 'a>(tokens: &'t [Token<'a>]) -> &'t [Token<'a>]
+    ensures { result.now ≡ after_definition tokens.now }
 {
     let (_, rest) = tokens.split_at(definition_tokens(tokens));
     rest
 }
 
-/// The number of tokens that the definition is.
+/// The number of tokens in the definition.
 fn definition_tokens(tokens: &[Token]) -> usize
-    ensures behind { drop result tokens.now ≡ behind_definition tokens.now }
+    ensures rest_after { drop result tokens.now ≡ after_definition tokens.now }
     ensures most { result ≤ length tokens.now }
 {
     match tokens.first() {
@@ -283,7 +285,7 @@ fn definition_tokens(tokens: &[Token]) -> usize
     }
 }
 
-/// Whether one of the tokens is none of the language.
+/// Whether one of the tokens is not in the language.
 fn has_bad_token(tokens: &[Token]) -> bool
     ensures { result ≡ has_bad_token tokens.now }
 {
@@ -305,7 +307,7 @@ fn defines_register(name: Option<&[u8]>) -> bool
     }
 }
 
-/// What a statement becomes in a line that defines a register's name.
+/// The error of a line that defines a register's name: the statement's, or else wrong operands.
 fn at_most_wrong(said: Result<Statement, AsmKind>) -> Result<Statement, AsmKind>
     ensures says { result ≡ at_most_wrong said }
     ensures registers { IfOk result (λ says. has_registers says ≡ true) }
@@ -316,7 +318,7 @@ fn at_most_wrong(said: Result<Statement, AsmKind>) -> Result<Statement, AsmKind>
     }
 }
 
-/// What a line says: its statement behind the definition, or the smallest of its faults of the kinds bad token,
+/// What a line says: its statement after the definition, or the smallest of its errors among the kinds bad token,
 /// unknown name and wrong operands.
 #[tactic(auto, unfolding(asm_defs::specs::AsmLines::line_says))]
 pub fn line_says(
@@ -331,7 +333,7 @@ pub fn line_says(
     if has_bad_token(tokens) {
         return Err(AsmKind::BadToken);
     }
-    let said = statement_of(labels, class, section, behind_definition(tokens));
+    let said = statement_of(labels, class, section, after_definition(tokens));
     if defines_register(definition_of(tokens)) {
         return at_most_wrong(said);
     }

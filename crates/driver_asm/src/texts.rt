@@ -21,12 +21,12 @@ use nook_data::scenario::Image;
 use std::alloc::Global;
 use std::fmt::Write;
 
-/// The assembler text of an image: its class, its entries in the class's order, a line for each text word, and, where
+/// The assembler text of an image: its class, its entries in the class's order, a line for each text word, and, if
 /// there are initial words, `.data` and a line for each. The text of a valid image assembles to that image.
 ///
 /// # Errors
 ///
-/// Want of memory.
+/// If memory runs out.
 pub fn disassemble(alloc: Global, image: &Image) -> Result<Words8, NoMemory>
     ensures text { IfOk result (λ text. text ≡ disassembled image.now) }
     ensures back { IsValidImage image.now → IfOk result (λ text. assembled text ≡ Ok image.now) }
@@ -50,7 +50,8 @@ fn text_of(alloc: Global, image: &Image) -> Result<String, NoMemory>
 
 /// Adds the line of the class.
 fn push_class(text: &mut String, class: Class) -> Result<(), NoMemory>
-    ensures { OnOk result (string_bytes text.new ≡ string_bytes text.old ++ line_text (class_tokens class)) }
+    ensures { OnOk result
+        (string_bytes text.new ≡ string_bytes text.old ++ line_text (class_tokens class)) }
 {
     text.push_str(".class")?;
     push_token(text, class_text(class))?;
@@ -58,7 +59,7 @@ fn push_class(text: &mut String, class: Class) -> Result<(), NoMemory>
     Ok(())
 }
 
-/// Adds a token behind another.
+/// Adds a token after another.
 fn push_token(text: &mut String, token: &str) -> Result<(), NoMemory>
     ensures { OnOk result (string_bytes text.new ≡ string_bytes text.old ++ later_token token.now) }
 {
@@ -67,33 +68,35 @@ fn push_token(text: &mut String, token: &str) -> Result<(), NoMemory>
     Ok(())
 }
 
-/// Adds a number behind a token.
+/// Adds a number after a token.
 fn push_number(text: &mut String, number: u32) -> Result<(), NoMemory>
-    ensures { OnOk result (string_bytes text.new ≡ string_bytes text.old ++ later_token (decimal number)) }
+    ensures { OnOk result
+        (string_bytes text.new ≡ string_bytes text.old ++ later_token (decimal number)) }
 {
     write!(text, " {number}")?;
     Ok(())
 }
 
-/// Adds a register behind a token.
+/// Adds a register after a token.
 fn push_register(text: &mut String, register: u8) -> Result<(), NoMemory>
-    ensures { OnOk result (string_bytes text.new ≡ string_bytes text.old ++ later_token (register_text register)) }
+    ensures { OnOk result
+        (string_bytes text.new ≡ string_bytes text.old ++ later_token (register_text register)) }
 {
     write!(text, " r{register}")?;
     Ok(())
 }
 
 /// Adds the lines of the entries.
-#[tactic(auto, using(crate::proofs::EntryLines::no_places))]
-fn push_entries(text: &mut String, entries: &[Key], places: &[Word]) -> Result<(), NoMemory>
+#[tactic(auto, using(crate::proofs::EntryLines::no_numbers))]
+fn push_entries(text: &mut String, entries: &[Key], addresses: &[Word]) -> Result<(), NoMemory>
     ensures { OnOk result (string_bytes text.new
-        ≡ string_bytes text.old ++ flat_map line_text (entry_lines entries.now places.now)) }
+        ≡ string_bytes text.old ++ flat_map line_text (entry_lines entries.now addresses.now)) }
 {
-    let mut rest = places;
+    let mut rest = addresses;
     for entry in entries {
         match rest.split_first() {
-            Some((place, more)) => {
-                push_entry(text, key_text(*entry), *place)?;
+            Some((address, more)) => {
+                push_entry(text, key_text(*entry), *address)?;
                 rest = more;
             }
             None => return Ok(()),
@@ -103,13 +106,13 @@ fn push_entries(text: &mut String, entries: &[Key], places: &[Word]) -> Result<(
 }
 
 /// Adds the line of an entry.
-fn push_entry(text: &mut String, name: &str, place: Word) -> Result<(), NoMemory>
+fn push_entry(text: &mut String, name: &str, address: Word) -> Result<(), NoMemory>
     ensures { OnOk result (string_bytes text.new
-        ≡ string_bytes text.old ++ line_text (codes ".entry" ∷ name.now ∷ decimal place ∷ [])) }
+        ≡ string_bytes text.old ++ line_text (codes ".entry" ∷ name.now ∷ decimal address ∷ [])) }
 {
     text.push_str(".entry")?;
     push_token(text, name)?;
-    push_number(text, place)?;
+    push_number(text, address)?;
     text.push_str("\n")?;
     Ok(())
 }
@@ -125,12 +128,12 @@ fn push_text_words(text: &mut String, words: &[Word]) -> Result<(), NoMemory>
     Ok(())
 }
 
-/// The text of one text word as its line has it, without the line feed: its instruction, or `.word` and the number
-/// where it is none.
+/// The text of one text word as in its line, without the line feed: its instruction, or `.word` and the number if it is
+/// no instruction.
 ///
 /// # Errors
 ///
-/// Want of memory.
+/// If memory runs out.
 pub fn word_text(alloc: Global, word: Word) -> Result<String, NoMemory>
     ensures { IfOk result (λ text. string_bytes text ≡ line_body (text_tokens word)) }
 {
@@ -142,13 +145,14 @@ pub fn word_text(alloc: Global, word: Word) -> Result<String, NoMemory>
     Ok(text)
 }
 
-/// Adds the line of a text word: its instruction, or the number where it is none.
+/// Adds the line of a text word: its instruction, or the number if it is no instruction.
 ///
 /// # Errors
 ///
-/// Want of memory.
+/// If memory runs out.
 pub fn push_text_word(text: &mut String, word: Word) -> Result<(), NoMemory>
-    ensures { OnOk result (string_bytes text.new ≡ string_bytes text.old ++ line_text (text_tokens word)) }
+    ensures { OnOk result
+        (string_bytes text.new ≡ string_bytes text.old ++ line_text (text_tokens word)) }
 {
     match decode(word) {
         Some(instr) => push_instr(text, instr),
@@ -176,7 +180,7 @@ fn push_instr_body(text: &mut String, instr: Instr) -> Result<(), NoMemory>
     push_operands(text, form_of(fields.mnemonic), &fields)
 }
 
-/// Adds the operands of a form, each behind a token.
+/// Adds the operands of a form, each after a token.
 fn push_operands(text: &mut String, which: Form, fields: &Fields) -> Result<(), NoMemory>
     ensures { OnOk result (string_bytes text.new
         ≡ string_bytes text.old ++ flat_map later_token (operand_tokens which fields.now)) }
@@ -200,7 +204,8 @@ fn push_operands(text: &mut String, which: Form, fields: &Fields) -> Result<(), 
 /// Adds both registers.
 fn push_registers(text: &mut String, fields: &Fields) -> Result<(), NoMemory>
     ensures { OnOk result (string_bytes text.new
-        ≡ string_bytes text.old ++ flat_map later_token (register_text fields.now.a ∷ register_text fields.now.b
+        ≡ string_bytes text.old
+        ++ flat_map later_token (register_text fields.now.a ∷ register_text fields.now.b
         ∷ [])) }
 {
     push_register(text, fields.a)?;
@@ -211,9 +216,10 @@ fn push_registers(text: &mut String, fields: &Fields) -> Result<(), NoMemory>
 ///
 /// # Errors
 ///
-/// Want of memory.
+/// If memory runs out.
 pub fn push_word(text: &mut String, word: Word) -> Result<(), NoMemory>
-    ensures { OnOk result (string_bytes text.new ≡ string_bytes text.old ++ line_text (word_tokens word)) }
+    ensures { OnOk result
+        (string_bytes text.new ≡ string_bytes text.old ++ line_text (word_tokens word)) }
 {
     push_word_body(text, word)?;
     text.push_str("\n")?;
@@ -222,13 +228,14 @@ pub fn push_word(text: &mut String, word: Word) -> Result<(), NoMemory>
 
 /// Adds a word that is a number, without a line feed.
 fn push_word_body(text: &mut String, word: Word) -> Result<(), NoMemory>
-    ensures { OnOk result (string_bytes text.new ≡ string_bytes text.old ++ line_body (word_tokens word)) }
+    ensures { OnOk result
+        (string_bytes text.new ≡ string_bytes text.old ++ line_body (word_tokens word)) }
 {
     text.push_str(".word")?;
     push_number(text, word)
 }
 
-/// Adds the lines of the initial words, where there are any.
+/// Adds the lines of the initial words, if there are any.
 fn push_initial_words(text: &mut String, words: &[Word]) -> Result<(), NoMemory>
     ensures { OnOk result (string_bytes text.new
         ≡ string_bytes text.old ++ flat_map line_text (initial_lines words.now)) }

@@ -19,7 +19,7 @@ use nook_data::memory::NoMemory;
 use std::alloc::Global;
 use std::marker::Model;
 
-/// 2^32, which stands for every number from there on.
+/// 2^32, which represents all numbers from 2^32 on.
 const TOO_LARGE: u64 = 0x1_0000_0000;
 
 /// A run of bytes between separators, and what it is. Contracts see its bytes.
@@ -74,7 +74,7 @@ impl<'a> Token<'a> {
         matches!(self.kind, TokenKind::Definition)
     }
 
-    /// Whether the token is none of the language.
+    /// Whether the token is not in the language.
     pub fn is_bad(&self) -> bool
         ensures { result ≡ is_bad (kind_of self.now) }
     {
@@ -82,7 +82,7 @@ impl<'a> Token<'a> {
     }
 }
 
-/// Whether a byte stands between tokens.
+/// Whether a byte separates tokens.
 pub fn is_separator(byte: u8) -> bool
     ensures { result ≡ is_separator byte }
 {
@@ -115,7 +115,7 @@ fn are_letters_or_digits(bytes: &[u8]) -> bool
     true
 }
 
-/// Whether bytes are 1 to 32 letters, digits and `_`, no digit first.
+/// Whether bytes are 1 to 32 letters, digits and `_`, not beginning with a digit.
 #[tactic(auto, unfolding(asm_defs::specs::AsmTokens::is_label_name))]
 fn is_label_name(bytes: &[u8]) -> bool
     ensures { result ≡ is_label_name bytes.now }
@@ -137,7 +137,7 @@ fn are_digits(bytes: &[u8], base: u32) -> bool
     true
 }
 
-/// The number that digits write, or 2^32 where it is larger.
+/// The number that digits write, or 2^32 if it is larger.
 #[tactic(auto, using(crate::proofs::Numerals::digit_more))]
 fn number(bytes: &[u8], base: u32) -> u64
     requires least { 2 ≤ base }
@@ -152,7 +152,7 @@ fn number(bytes: &[u8], base: u32) -> u64
     number
 }
 
-/// A number with one digit more, or 2^32 where it is larger.
+/// A number with one more digit, or 2^32 if it is larger.
 fn with_digit(number: u64, base: u32, byte: u8) -> u64
     requires least { 2 ≤ base }
     requires most { base ≤ 36 }
@@ -183,7 +183,8 @@ fn numeral(bytes: &[u8], base: u32) -> Option<u64>
 
 /// The number of `0x` and hexadecimal digits.
 fn hexadecimal(token: &[u8]) -> Option<u64>
-    ensures { result ≡ (if bytes_eq (take 2 token.now) (codes "0x") then numeral 16 (drop 2 token.now) else None) }
+    ensures { result ≡ (if bytes_eq (take 2 token.now) (codes "0x") then numeral 16
+        (drop 2 token.now) else None) }
 {
     if token.len() < 2 {
         return None;
@@ -198,7 +199,8 @@ fn hexadecimal(token: &[u8]) -> Option<u64>
 
 /// Whether a token is a name and a colon.
 fn is_definition(token: &[u8]) -> bool
-    ensures { result ≡ (is_label_name (but_last token.now) && slice_index token.now (length token.now - 1) == 58) }
+    ensures { result ≡ (is_label_name (but_last token.now) && slice_index token.now
+        (length token.now - 1) == 58) }
 {
     match token.split_last() {
         Some((last, name)) => is_label_name(name) && *last == b':',
@@ -239,7 +241,7 @@ fn kind_of(token: &[u8]) -> TokenKind
     }
 }
 
-/// The register that a name is, of `r0` to `r15`.
+/// The register, `r0` to `r15`, that a name denotes.
 #[tactic(auto, unfolding(asm_defs::proofs::AsmOnLiterals::asm_on_literals))]
 pub fn register_named(name: &[u8]) -> Option<u8>
     ensures register { result ≡ register_named name.now }

@@ -1,3 +1,4 @@
 pub mod OneWord
 pub mod Turns
 pub mod Bursts
+pub mod Decoding

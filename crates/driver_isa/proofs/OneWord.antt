@@ -1,17 +1,17 @@
--- A turn changes at most one word of memory: only a store has another memory.
+-- An instruction changes at most one word of memory: only a store changes memory.
 use Rattle.std.proofs.Common.{◌≡◌, ◌+◌, ◌%◌, ◌^◌, ℕ, Bool, true, false, List, [], ◌∷◌, ◌++◌, replicate, Option, Some, None, inl, inr, refl, slice_set, if◌then◌else◌}
 use Rattle.driver_isa.specs.OneWord.{ChangesOneWord, before_store}
 use Rattle.machine_defs.specs.Devices.{Given, Taken, input_of, output_of}
 use Rattle.machine_defs.specs.Machine.{decode_of}
 use Rattle.machine_defs.specs.Pages.{fetch_word, may_write, read_word}
-use Rattle.machine_defs.specs.Turn.{Machine, Turn, advanced, executed, goes, past_input, past_output, puts, r, trapped, turn}
+use Rattle.machine_defs.specs.Execution.{Machine, Executed, advanced, executed, goes, past_input, past_output, puts, r, trapped, turn}
 use Rattle.nook_data.specs.declared.devices.DeviceState.{DeviceState}
 use Rattle.nook_data.specs.declared.entries.Entry.{Entry}
 use Rattle.nook_data.specs.declared.machine.Instr.{Instr}
 use Rattle.nook_data.specs.declared.machine.Instr.TheVariants as instr
 use Rattle.nook_data.specs.declared.machine.TrapCause.TheVariants as trap
 
-abbrev Keeps : List Entry → Machine → Turn → Type 0
+abbrev Keeps : List Entry → Machine → Executed → Type 0
 Keeps entries m t = ChangesOneWord entries m.memory t.machine.memory
 
 load_keeps : (entries : List Entry) (m : Machine) (a address : ℕ) (word : Option ℕ)
@@ -78,9 +78,9 @@ pub turn_changes : (entries : List Entry) (m : Machine) → ChangesOneWord entri
 unfolding turn
 turn_changes entries m = fetched_keeps entries m (fetch_word m.memory m.cpu.counter)
 
-pub store_behind : (device : DeviceState) → (turn [] (before_store device 2048)).machine.memory ≡ 0x0d120000 ∷ (replicate 2047 0 ++ 7 ∷ [])
+pub store_after : (device : DeviceState) → (turn [] (before_store device 2048)).machine.memory ≡ 0x0d120000 ∷ (replicate 2047 0 ++ 7 ∷ [])
 unfolding turn
-store_behind device = refl
+store_after device = refl
 
 pub store_inside : (device : DeviceState) → (turn [] (before_store device 2047)).machine.memory ≡ 0x0d120000 ∷ replicate 2048 0
 unfolding turn

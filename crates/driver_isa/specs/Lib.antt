@@ -1,3 +1,4 @@
+pub mod Decoding
 pub mod Fields
 pub mod OneWord
 pub mod Runs

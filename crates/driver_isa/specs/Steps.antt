@@ -1,35 +1,43 @@
 use Rattle.std.specs.Prelude.{ℕ, List, Bool, true, false, Option, None, Some, if◌then◌else◌}
-use Rattle.driver_isa.specs.declared.turn.Step.{Step}
-use Rattle.driver_isa.specs.declared.turn.Step.TheVariants as step
-use Rattle.machine_defs.specs.Turn.{next_counter}
+use Rattle.std.specs.Option.{option_map}
+use Rattle.driver_isa.specs.declared.turn.InstructionResult.{InstructionResult}
+use Rattle.driver_isa.specs.declared.turn.InstructionResult.TheVariants as step
+use Rattle.machine_defs.specs.Execution.{next_counter}
+use Rattle.machine_defs.specs.Machine.{decode_of}
+use Rattle.machine_defs.specs.Pages.{fetch_word}
 use Rattle.nook_data.specs.declared.machine.BurstEnd.{BurstEnd}
 use Rattle.nook_data.specs.declared.machine.Cpu.{Cpu}
+use Rattle.nook_data.specs.declared.machine.Instr.{Instr}
 
--- a processor of its counter and its registers
+-- a processor with this counter and these registers
 abbrev pub cpu_of : ℕ → List ℕ → Cpu
 cpu_of counter registers = record { counter = counter; registers = registers }
 
--- the counter after a turn at a counter
-abbrev pub next_of : ℕ → Step → ℕ
+-- the instruction of the text word at an address, if that is one; nothing if the word may not be fetched
+abbrev pub fetched : List ℕ → ℕ → Option (Option Instr)
+fetched memory address = option_map decode_of (fetch_word memory address)
+
+-- the counter after an instruction at a counter
+abbrev pub next_of : ℕ → InstructionResult → ℕ
 next_of counter step.Next = next_counter counter
 next_of counter step.Acted = next_counter counter
 next_of counter (step.To target) = target
 next_of counter (step.Ended last end) = last
 
--- the crossing that a turn was
-abbrev pub crossing_of : Step → Option BurstEnd
+-- the crossing of an instruction, if it is one
+abbrev pub crossing_of : InstructionResult → Option BurstEnd
 crossing_of step.Next = None
 crossing_of step.Acted = None
 crossing_of (step.To target) = None
 crossing_of (step.Ended last end) = Some end
 
--- whether a turn goes on without an act
-abbrev pub is_quiet : Step → Bool
+-- whether an instruction does no act and does not cross
+abbrev pub is_quiet : InstructionResult → Bool
 is_quiet step.Next = true
 is_quiet step.Acted = false
 is_quiet (step.To target) = true
 is_quiet (step.Ended last end) = false
 
--- to the target where the test holds, else on to the next word
-abbrev pub target_where : Bool → ℕ → Step
+-- to the target if the test holds, else to the next word
+abbrev pub target_where : Bool → ℕ → InstructionResult
 target_where test target = if test then step.To target else step.Next

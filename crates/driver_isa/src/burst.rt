@@ -1,4 +1,4 @@
-//! Bursts: turns up to a crossing, with the faults that strike among them.
+//! Bursts: instructions up to a crossing, with the faults that strike between them.
 
 ghost use Rattle.std.specs.Prelude.{◌≡◌, ◌<◌, ◌≤◌, ◌-◌, ℕ, None, false, length, []};
 ghost use Rattle.driver_isa.specs.Runs.{is_due, past_run};
@@ -8,22 +8,22 @@ ghost use Rattle.machine_defs.specs.Burst.{burst as burst_of, burst_from, strike
 ghost use Rattle.machine_defs.specs.Burst.{trap_of};
 
 use crate::bus::Bus;
-use crate::turn::{Step, take_turn};
+use crate::turn::{InstructionResult, take_turn};
 use nook_data::journal::ActLog;
-use nook_data::limits::{MOST_ACTS, MOST_TURNS};
+use nook_data::limits::{MOST_ACTS, MOST_INSTRUCTIONS};
 use nook_data::lists::Word;
 use nook_data::machine::{BurstEnd, Cpu, TrapCause};
 use nook_data::memory_map::TEXT_WORDS;
 use nook_data::scenario::{Fault, FaultKind};
 
-/// How a burst went: the number of its turns, a last one that trapped included, and its end.
+/// How a burst went: the number of its instructions, including a last one that trapped, and its end.
 #[derive(Clone, Copy)]
 pub struct BurstDone {
     pub count: u32,
     pub end: BurstEnd,
 }
 
-/// How far turns in a row went: the turns of the burst so far, the counter, and the end where they came to it.
+/// How far a run of instructions came: the burst's instructions so far, the counter, and the burst's end if reached.
 #[derive(Clone, Copy)]
 struct Run {
     count: u32,
@@ -31,7 +31,7 @@ struct Run {
     end: Option<BurstEnd>,
 }
 
-/// A whole burst: its turns, the counter as it is left, and its end.
+/// A whole burst: its instructions, the counter that it left, and its end.
 #[derive(Clone, Copy)]
 struct Whole {
     count: u32,
@@ -39,7 +39,7 @@ struct Whole {
     end: BurstEnd,
 }
 
-/// What the faults of one place left: the faults behind them, and the trap that one of them is.
+/// The result of striking the faults that were due: the faults after them, and the trap if one of them was one.
 #[derive(Drop)]
 pub struct Struck<'a> {
     pub rest: &'a [Fault],
@@ -47,9 +47,9 @@ pub struct Struck<'a> {
 }
 
 /// Runs one burst to its crossing. `faults` are those of this burst in rising order of `after`: one with
-/// `after` = k strikes before turn k + 1, those of one place in list order. `acts` is empty, with its full room.
+/// `after` = k strikes before instruction k + 1, those with the same k in list order. `acts` is empty, with full room.
 /// It takes no memory.
-// On its own, its loop has the processor's registers for itself.
+// As a separate function, its loop has the processor's registers for itself.
 #[inline(never)]
 #[tactic(auto, unfolding(machine_defs::specs::Burst::burst))]
 pub fn run_burst<B: Bus>(
@@ -77,7 +77,7 @@ pub fn run_burst<B: Bus>(
     }
 }
 
-/// The burst of a machine whose counter is passed and told by value: so it stays in a register.
+/// The burst of a machine. The counter is passed and returned by value, so it stays in a register.
 #[inline(always)]
 fn run_turns<B: Bus>(
     first: Word,
@@ -87,7 +87,7 @@ fn run_turns<B: Bus>(
     acts: &mut ActLog,
 ) -> Whole
     requires { acts.old ≡ [] }
-    ensures burst { burst_from MOST_TURNS (B.entries bus.old) faults.now (machine_of (cpu_of first registers.old) (B.words bus.old) (B.device bus.old)) acts.old
+    ensures burst { burst_from MOST_INSTRUCTIONS (B.entries bus.old) faults.now (machine_of (cpu_of first registers.old) (B.words bus.old) (B.device bus.old)) acts.old
         ≡ record {
           machine = machine_of (cpu_of result.counter registers.new) (B.words bus.new) (B.device bus.new);
           acts = acts.new;
@@ -100,7 +100,7 @@ fn run_turns<B: Bus>(
     let mut pending = faults;
     let mut counter = first;
     let mut count = 0;
-    while count < MOST_TURNS {
+    while count < MOST_INSTRUCTIONS {
         let struck = strike_due(pending, count, counter, registers, bus);
         if let Some(cause) = struck.stopped {
             return stopped(count, counter, cause);
@@ -118,10 +118,10 @@ fn run_turns<B: Bus>(
             };
         }
     }
-    stopped(MOST_TURNS, counter, TrapCause::Hang)
+    stopped(MOST_INSTRUCTIONS, counter, TrapCause::Hang)
 }
 
-/// Turns up to a crossing or the place `stop`; no fault is due before that.
+/// Runs instructions up to a crossing or until `stop` of the burst are done; no fault is due before that.
 #[inline(always)]
 fn run_until<B: Bus>(
     first: Word,
@@ -134,9 +134,9 @@ fn run_until<B: Bus>(
 ) -> Run
     requires room { length acts.old < MOST_ACTS }
     requires some { before < stop }
-    requires within { stop ≤ MOST_TURNS }
+    requires within { stop ≤ MOST_INSTRUCTIONS }
     requires quiet { (k : ℕ) → before ≤ k → k < stop → is_due k pending.now ≡ false }
-    ensures went { burst_from (MOST_TURNS - before) (B.entries bus.old) pending.now (machine_of (cpu_of first registers.old) (B.words bus.old) (B.device bus.old)) acts.old
+    ensures went { burst_from (MOST_INSTRUCTIONS - before) (B.entries bus.old) pending.now (machine_of (cpu_of first registers.old) (B.words bus.old) (B.device bus.old)) acts.old
         ≡ past_run result.count (B.entries bus.new) pending.now (machine_of (cpu_of result.counter registers.new) (B.words bus.new) (B.device bus.new)) acts.new result.end }
     ensures room { result.end ≡ None → length acts.new < MOST_ACTS }
     ensures further { before < result.count }
@@ -151,8 +151,8 @@ fn run_until<B: Bus>(
     run
 }
 
-/// Turns in a row up to a jump, a crossing or the place `stop`; no fault is due before that.
-// A jump leaves the loop, so that its target is a branch and not a conditional move, for which the next fetch waits.
+/// Runs instructions up to a jump, a crossing, or until `stop` of the burst are done; no fault is due before that.
+// A jump leaves the loop, so its target is a branch and not a conditional move, for which the next fetch would wait.
 #[inline(always)]
 fn run_straight<B: Bus>(
     first: Word,
@@ -165,9 +165,9 @@ fn run_straight<B: Bus>(
 ) -> Run
     requires room { length acts.old < MOST_ACTS }
     requires some { before < stop }
-    requires within { stop ≤ MOST_TURNS }
+    requires within { stop ≤ MOST_INSTRUCTIONS }
     requires quiet { (k : ℕ) → before ≤ k → k < stop → is_due k pending.now ≡ false }
-    ensures went { burst_from (MOST_TURNS - before) (B.entries bus.old) pending.now (machine_of (cpu_of first registers.old) (B.words bus.old) (B.device bus.old)) acts.old
+    ensures went { burst_from (MOST_INSTRUCTIONS - before) (B.entries bus.old) pending.now (machine_of (cpu_of first registers.old) (B.words bus.old) (B.device bus.old)) acts.old
         ≡ past_run result.count (B.entries bus.new) pending.now (machine_of (cpu_of result.counter registers.new) (B.words bus.new) (B.device bus.new)) acts.new result.end }
     ensures room { result.end ≡ None → length acts.new < MOST_ACTS }
     ensures further { before < result.count }
@@ -178,8 +178,8 @@ fn run_straight<B: Bus>(
     let mut counter = first;
     for count in before..stop {
         match take_turn(counter, registers, bus, acts) {
-            Step::Next => {}
-            Step::Acted => {
+            InstructionResult::Next => {}
+            InstructionResult::Acted => {
                 if acts.len() >= MOST_ACTS {
                     return Run {
                         count: count + 1,
@@ -188,12 +188,12 @@ fn run_straight<B: Bus>(
                     };
                 }
             }
-            Step::To(target) => return Run {
+            InstructionResult::To(target) => return Run {
                 count: count + 1,
                 counter: target,
                 end: None,
             },
-            Step::Ended { last, end } => return Run {
+            InstructionResult::Ended { last, end } => return Run {
                 count: count + 1,
                 counter: last,
                 end: Some(end),
@@ -208,28 +208,28 @@ fn run_straight<B: Bus>(
     }
 }
 
-/// The place of the next fault, or that of the last turn's end where none is due any more.
+/// The number of instructions before the next fault, or in a whole burst if no later fault is due.
 fn next_stop(pending: &[Fault], count: u32) -> u32
-    requires within { count < MOST_TURNS }
+    requires within { count < MOST_INSTRUCTIONS }
     requires clear { is_due count pending.now ≡ false }
     ensures further { count < result }
-    ensures within { result ≤ MOST_TURNS }
+    ensures within { result ≤ MOST_INSTRUCTIONS }
     ensures quiet { (k : ℕ) → count ≤ k → k < result → is_due k pending.now ≡ false }
 {
     match pending {
-        [fault, ..] if count < fault.after && fault.after < MOST_TURNS => fault.after,
-        _ => MOST_TURNS,
+        [fault, ..] if count < fault.after && fault.after < MOST_INSTRUCTIONS => fault.after,
+        _ => MOST_INSTRUCTIONS,
     }
 }
 
-/// The end of a burst that a trap stops at a turn; a Hang counts as a whole burst.
+/// The end of a burst that a trap stops before or in an instruction; a Hang counts as a whole burst.
 fn stopped(count: u32, counter: Word, cause: TrapCause) -> Whole
     ensures count { result.count ≡ count_at count cause }
     ensures counter { result.counter ≡ counter }
     ensures cause { result.end ≡ BurstEnd.Trap cause }
 {
     let count = match cause {
-        TrapCause::Hang => MOST_TURNS,
+        TrapCause::Hang => MOST_INSTRUCTIONS,
         _ => count,
     };
     Whole {
@@ -239,24 +239,24 @@ fn stopped(count: u32, counter: Word, cause: TrapCause) -> Whole
     }
 }
 
-/// Strikes the faults at the front that stand at this place, in their order, up to one that is a trap. `counter` is the
-/// processor's, which no fault changes.
-// Most bursts have no faults left, and each turn asks.
+/// Strikes the first faults that are due after this many instructions, in order, up to one that is a trap. `counter`
+/// is the processor's, which no fault changes.
+// Most bursts have no faults left, and a walk asks before each instruction.
 #[inline(always)]
 pub fn strike_due<'a, B: Bus>(
     faults: &'a [Fault],
-    place: u32,
+    point: u32,
     counter: Word,
     registers: &mut [Word; 16],
     bus: &mut B,
 ) -> Struck<'a>
-    ensures struck { strikes_at place (B.entries bus.old) faults.now (machine_of (cpu_of counter registers.old) (B.words bus.old) (B.device bus.old))
+    ensures struck { strikes_at point (B.entries bus.old) faults.now (machine_of (cpu_of counter registers.old) (B.words bus.old) (B.device bus.old))
         ≡ record {
           machine = machine_of (cpu_of counter registers.new) (B.words bus.new) (B.device bus.new);
           rest = result.rest.now;
           stopped = result.stopped;
         } }
-    ensures clear { result.stopped ≡ None → is_due place result.rest.now ≡ false }
+    ensures clear { result.stopped ≡ None → is_due point result.rest.now ≡ false }
     ensures entries { B.entries bus.new ≡ B.entries bus.old }
     ensures held { B.held bus.new ≡ B.held bus.old }
 {
@@ -266,31 +266,31 @@ pub fn strike_due<'a, B: Bus>(
             stopped: None,
         };
     }
-    strike_front(faults, place, counter, registers, bus)
+    strike_front(faults, point, counter, registers, bus)
 }
 
-/// The same of any faults, one after the other.
+/// Does the same for any faults, one after the other.
 #[inline(never)]
 fn strike_front<'a, B: Bus>(
     faults: &'a [Fault],
-    place: u32,
+    point: u32,
     counter: Word,
     registers: &mut [Word; 16],
     bus: &mut B,
 ) -> Struck<'a>
-    ensures struck { strikes_at place (B.entries bus.old) faults.now (machine_of (cpu_of counter registers.old) (B.words bus.old) (B.device bus.old))
+    ensures struck { strikes_at point (B.entries bus.old) faults.now (machine_of (cpu_of counter registers.old) (B.words bus.old) (B.device bus.old))
         ≡ record {
           machine = machine_of (cpu_of counter registers.new) (B.words bus.new) (B.device bus.new);
           rest = result.rest.now;
           stopped = result.stopped;
         } }
-    ensures clear { result.stopped ≡ None → is_due place result.rest.now ≡ false }
+    ensures clear { result.stopped ≡ None → is_due point result.rest.now ≡ false }
     ensures entries { B.entries bus.new ≡ B.entries bus.old }
     ensures held { B.held bus.new ≡ B.held bus.old }
 {
     let mut rest = faults;
     while let [fault, more @ ..] = rest {
-        if fault.after != place {
+        if fault.after != point {
             break;
         }
         rest = more;
@@ -307,7 +307,7 @@ fn strike_front<'a, B: Bus>(
     }
 }
 
-/// Strikes one fault, and gives the trap that it is. A Poke, a Code or a Reg with no such place does nothing.
+/// Strikes one fault, and returns its trap if it is one. A Poke, a Code or a Reg without a valid target does nothing.
 fn strike<B: Bus>(
     kind: FaultKind,
     counter: Word,

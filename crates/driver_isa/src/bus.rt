@@ -2,21 +2,23 @@
 
 ghost use Rattle.std.specs.Prelude.{◌≡◌, ◌<◌, ℕ, List, IsNone, length, slice_set};
 ghost use Rattle.std.specs.Borrow.{GName};
+ghost use Rattle.driver_isa.specs.Steps.{fetched};
 ghost use Rattle.machine_defs.specs.Devices.{input_of, output_of};
 ghost use Rattle.machine_defs.specs.Views.Ports.{IsTaken, given_by};
-ghost use Rattle.machine_defs.specs.Pages.{fetch_word, may_write, read_word, written};
+ghost use Rattle.machine_defs.specs.Pages.{may_write, read_word, written};
 ghost use Rattle.nook_data.specs.declared.devices.DeviceState.{DeviceState};
 ghost use Rattle.nook_data.specs.declared.entries.Entry.{Entry};
 
 use nook_data::journal::ActLog;
 use nook_data::limits::MOST_ACTS;
 use nook_data::lists::Word;
+use nook_data::machine::Instr;
 use nook_data::memory_map::TEXT_WORDS;
 
 /// The memory and the device of a driver, as its machine reaches them. No call takes memory.
 pub trait Bus {
-    // The words of memory; the entries that say where the driver may write; the device; and the references that
-    // the bus is made of, which stay the same.
+    // The words of memory; the entries that say what the driver may write; the device; and the references that
+    // make up the bus, which stay the same.
     ghost words: { Self → List ℕ };
 
     ghost entries: { Self → List Entry };
@@ -25,15 +27,15 @@ pub trait Bus {
 
     ghost held: { Self → List GName };
 
-    /// The text word at `address`; `None` where it may not be fetched.
-    fn fetch(&self, address: u32) -> Option<Word>
-        ensures { result ≡ fetch_word (words self.now) address };
+    /// The instruction of the text word at `address`, if that is one; `None` if the word may not be fetched.
+    fn fetch(&self, address: u32) -> Option<Option<Instr>>
+        ensures { result ≡ fetched (words self.now) address };
 
-    /// The word at `address`; `None` where it may not be read.
+    /// The word at `address`; `None` if it may not be read.
     fn read(&self, address: u32) -> Option<Word>
         ensures { result ≡ read_word (words self.now) address };
 
-    /// Writes the word at `address`; false, with nothing changed, where the driver may not write there.
+    /// Writes the word at `address`; false, with nothing changed, if the driver may not write there.
     fn write(&mut self, address: u32, word: Word) -> bool
         ensures may { result ≡ may_write (entries self.old) address }
         ensures words { words self.new ≡ written (entries self.old) address word (words self.old) }
@@ -41,7 +43,7 @@ pub trait Bus {
         ensures device { device self.new ≡ device self.old }
         ensures held { held self.new ≡ held self.old };
 
-    /// What the device gives at `port`; `None`, with nothing changed, where it has no such port.
+    /// Reads a word from the device at `port`; `None`, with nothing changed, if it has no such port.
     fn input(&mut self, port: u32) -> Option<Word>
         ensures given { input_of port (device self.old) ≡ given_by result (device self.new) }
         ensures refused { IsNone result → device self.new ≡ device self.old }
@@ -49,7 +51,7 @@ pub trait Bus {
         ensures entries { entries self.new ≡ entries self.old }
         ensures held { held self.new ≡ held self.old };
 
-    /// Hands the device a word at `port`, which adds at most one act; false, with nothing changed, where it has
+    /// Writes a word to the device at `port`, which adds at most one act; false, with nothing changed, if it has
     /// no such port.
     fn output(&mut self, port: u32, word: Word, acts: &mut ActLog) -> bool
         requires { length acts.old < MOST_ACTS }

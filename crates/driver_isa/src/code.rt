@@ -7,9 +7,9 @@ ghost use Rattle.machine_defs.specs.Machine.{a_field, b_field, decode_of, encode
 use nook_data::lists::Word;
 use nook_data::machine::Instr;
 
-/// The instruction of a word: `None` exactly where no row of the instruction table fits, or a field that the
-/// row does not name is not zero.
-// A machine decodes at each turn; inlined, the two matches on an instruction become one.
+/// Decodes a word: `None` exactly if no row of the instruction table fits, or a field that the row does not
+/// name is not zero.
+// The machine decodes every instruction; when this is inlined, the two matches on an instruction become one.
 #[inline(always)]
 pub fn decode(word: Word) -> Option<Instr>
     ensures row { result ≡ decode_of word }
@@ -109,7 +109,7 @@ pub fn decode(word: Word) -> Option<Instr>
     }
 }
 
-/// Field a of a word. The fields are taken in each arm: taken before the `match` they cost each turn more.
+/// Field a of a word. Each arm extracts its fields itself: before the `match` they cost every instruction more.
 #[inline(always)]
 fn a_of(word: Word) -> u8
     ensures { result ≡ a_field word }
@@ -133,7 +133,7 @@ fn imm_of(word: Word) -> u16
     (word % 0x1_0000) as u16
 }
 
-/// The one word of an instruction, whose register numbers are at most 15.
+/// Encodes an instruction, whose register numbers are at most 15, as a word.
 pub fn encode(instr: Instr) -> Word
     requires { has_registers instr ≡ true }
     ensures word { result ≡ encode_of instr }
@@ -167,7 +167,7 @@ pub fn encode(instr: Instr) -> Word
     }
 }
 
-/// A word from its four fields.
+/// A word made of its four fields.
 fn pack(op: u8, a: u8, b: u8, imm: u16) -> Word
     requires first { a < 16 }
     requires second { b < 16 }

@@ -1,37 +1,36 @@
-//! One machine turn: the word at the counter is fetched and its instruction done.
+//! One machine instruction: the word at the counter is fetched and executed.
 
 ghost use Rattle.std.specs.Prelude.{◌≡◌, ◌+◌, ◌*◌, ◌%◌, ◌^◌, ◌<◌, None, Some, true, length, slice_index, slice_set};
 ghost use Rattle.driver_isa.specs.Fields.{has_registers};
 ghost use Rattle.driver_isa.specs.Steps.{cpu_of, crossing_of, is_quiet, next_of, target_where};
-ghost use Rattle.driver_isa.specs.Turns.{IsTurn, machine_of, quiet};
-ghost use Rattle.machine_defs.specs.Turn.{next_counter, executed, loads, past_input, past_output, stores};
-ghost use Rattle.machine_defs.specs.Turn.{turn as machine_turn};
+ghost use Rattle.driver_isa.specs.Turns.{IsExecuted, machine_of, quiet};
+ghost use Rattle.machine_defs.specs.Execution.{next_counter, executed, loads, past_input, past_output, stores};
+ghost use Rattle.machine_defs.specs.Execution.{turn as machine_turn};
 ghost use Rattle.machine_defs.specs.Devices.{input_of, output_of};
 
 use crate::bus::Bus;
-use crate::code::decode;
 use nook_data::journal::ActLog;
 use nook_data::limits::MOST_ACTS;
 use nook_data::lists::Word;
 use nook_data::machine::{BurstEnd, Cpu, Instr, TrapCause};
 
-/// What a turn leads to.
+/// What an instruction leads to.
 #[derive(Clone, Copy)]
-pub enum Step {
+pub enum InstructionResult {
     /// The next word.
     Next,
-    /// The next word, with perhaps an act more.
+    /// The next word, perhaps with another act.
     Acted,
     /// Another word.
     To(Word),
-    /// A crossing, with the counter as it is left.
+    /// A crossing, with the counter that it leaves.
     Ended { last: Word, end: BurstEnd },
 }
 
-/// One turn, and the crossing that it is. A turn that traps changes nothing else.
+/// Executes one instruction and returns its crossing, if it is one. An instruction that traps changes nothing else.
 pub fn turn<B: Bus>(cpu: &mut Cpu, bus: &mut B, acts: &mut ActLog) -> Option<BurstEnd>
     requires { length acts.old < MOST_ACTS }
-    ensures turned { IsTurn
+    ensures turned { IsExecuted
         (machine_turn (B.entries bus.old) (machine_of cpu.old (B.words bus.old) (B.device bus.old)))
         (machine_of cpu.new (B.words bus.new) (B.device bus.new)) acts.old acts.new result }
     ensures entries { B.entries bus.new ≡ B.entries bus.old }
@@ -39,32 +38,32 @@ pub fn turn<B: Bus>(cpu: &mut Cpu, bus: &mut B, acts: &mut ActLog) -> Option<Bur
 {
     let counter = cpu.counter;
     match take_turn(counter, &mut cpu.registers, bus, acts) {
-        Step::Next | Step::Acted => {
+        InstructionResult::Next | InstructionResult::Acted => {
             cpu.counter = counter.wrapping_add(1);
             None
         }
-        Step::To(target) => {
+        InstructionResult::To(target) => {
             cpu.counter = target;
             None
         }
-        Step::Ended { last, end } => {
+        InstructionResult::Ended { last, end } => {
             cpu.counter = last;
             Some(end)
         }
     }
 }
 
-/// The turn of the word at a counter. The counter is passed and told by value: so a loop keeps it in a register.
+/// Executes the word at a counter. The counter is passed and returned by value, so a loop keeps it in a register.
 #[inline(always)]
-#[tactic(auto, unfolding(machine_defs::specs::Turn::turn))]
+#[tactic(auto, unfolding(machine_defs::specs::Execution::turn))]
 pub fn take_turn<B: Bus>(
     counter: Word,
     registers: &mut [Word; 16],
     bus: &mut B,
     acts: &mut ActLog,
-) -> Step
+) -> InstructionResult
     requires { length acts.old < MOST_ACTS }
-    ensures turned { IsTurn
+    ensures turned { IsExecuted
         (machine_turn (B.entries bus.old) (machine_of (cpu_of counter registers.old) (B.words bus.old) (B.device bus.old)))
         (machine_of (cpu_of (next_of counter result) registers.new) (B.words bus.new) (B.device bus.new))
         acts.old acts.new (crossing_of result) }
@@ -72,16 +71,14 @@ pub fn take_turn<B: Bus>(
     ensures entries { B.entries bus.new ≡ B.entries bus.old }
     ensures held { B.held bus.new ≡ B.held bus.old }
 {
-    let Some(word) = bus.fetch(counter) else {
-        return trap(counter, TrapCause::BadFetch);
-    };
-    let Some(instr) = decode(word) else {
-        return trap(counter, TrapCause::BadOpcode);
-    };
-    perform(instr, counter, registers, bus, acts)
+    match bus.fetch(counter) {
+        Some(Some(instr)) => perform(instr, counter, registers, bus, acts),
+        Some(None) => trap(counter, TrapCause::BadOpcode),
+        None => trap(counter, TrapCause::BadFetch),
+    }
 }
 
-/// Does one instruction.
+/// Executes a decoded instruction.
 #[inline(always)]
 fn perform<B: Bus>(
     instr: Instr,
@@ -89,10 +86,10 @@ fn perform<B: Bus>(
     registers: &mut [Word; 16],
     bus: &mut B,
     acts: &mut ActLog,
-) -> Step
+) -> InstructionResult
     requires fields { has_registers instr ≡ true }
     requires room { length acts.old < MOST_ACTS }
-    ensures turned { IsTurn
+    ensures turned { IsExecuted
         (executed (B.entries bus.old) (machine_of (cpu_of counter registers.old) (B.words bus.old) (B.device bus.old)) instr)
         (machine_of (cpu_of (next_of counter result) registers.new) (B.words bus.new) (B.device bus.new))
         acts.old acts.new (crossing_of result) }
@@ -142,12 +139,12 @@ fn perform<B: Bus>(
         Instr::Addi { a, b, imm } => put(registers, a, offset(registers, b, imm)),
         Instr::Ld { a, b, imm } => load(counter, registers, bus, a, offset(registers, b, imm)),
         Instr::St { a, b, imm } => store(counter, registers, bus, a, offset(registers, b, imm)),
-        Instr::Jmp { imm } => Step::To(u32::from(imm)),
+        Instr::Jmp { imm } => InstructionResult::To(u32::from(imm)),
         Instr::Beq { a, b, imm } => branch(register(registers, a) == register(registers, b), imm),
         Instr::Bne { a, b, imm } => branch(register(registers, a) != register(registers, b), imm),
         Instr::Blt { a, b, imm } => branch(register(registers, a) < register(registers, b), imm),
         Instr::Jal { a, imm } => link(counter, registers, a, imm),
-        Instr::Jr { a } => Step::To(register(registers, a)),
+        Instr::Jr { a } => InstructionResult::To(register(registers, a)),
         Instr::In { a, imm } => take(counter, registers, bus, a, imm),
         Instr::Out { a, imm } => give(counter, registers, bus, acts, a, imm),
         Instr::Kcall { imm } => cross(
@@ -174,7 +171,7 @@ fn register(registers: &[Word; 16], a: u8) -> Word
     registers[a as usize]
 }
 
-/// A register's word and an immediate, modulo 2^32.
+/// The sum of a register's word and an immediate, modulo 2^32.
 fn offset(registers: &[Word; 16], b: u8, imm: u16) -> Word
     requires { b < 16 }
     ensures { result ≡ (slice_index registers.now b + imm) % 2 ^ 32 }
@@ -182,66 +179,72 @@ fn offset(registers: &[Word; 16], b: u8, imm: u16) -> Word
     register(registers, b).wrapping_add(u32::from(imm))
 }
 
-/// The word with other upper 16 bits.
+/// The word with its upper 16 bits replaced.
 fn with_upper(word: Word, upper: u16) -> Word
     ensures { result ≡ upper * 2 ^ 16 + word % 2 ^ 16 }
 {
     u32::from(upper) * 0x1_0000 + word % 0x1_0000
 }
 
-/// A trap, which leaves the counter.
-fn trap(counter: Word, cause: TrapCause) -> Step
-    ensures { result ≡ Step.Ended counter (BurstEnd.Trap cause) }
+/// A trap, which leaves the counter unchanged.
+fn trap(counter: Word, cause: TrapCause) -> InstructionResult
+    ensures { result ≡ InstructionResult.Ended counter (BurstEnd.Trap cause) }
 {
-    Step::Ended {
+    InstructionResult::Ended {
         last: counter,
         end: BurstEnd::Trap(cause),
     }
 }
 
-/// A crossing with the counter on the next word.
-fn cross(counter: Word, end: BurstEnd) -> Step
-    ensures { result ≡ Step.Ended (next_counter counter) end }
+/// A crossing that leaves the counter on the next word.
+fn cross(counter: Word, end: BurstEnd) -> InstructionResult
+    ensures { result ≡ InstructionResult.Ended (next_counter counter) end }
 {
-    Step::Ended {
+    InstructionResult::Ended {
         last: counter.wrapping_add(1),
         end,
     }
 }
 
-/// A register gets a word.
-fn put(registers: &mut [Word; 16], a: u8, word: Word) -> Step
+/// Sets a register.
+fn put(registers: &mut [Word; 16], a: u8, word: Word) -> InstructionResult
     requires { a < 16 }
     ensures registers { registers.new ≡ slice_set registers.old a word }
-    ensures goes_on { result ≡ Step.Next }
+    ensures goes_on { result ≡ InstructionResult.Next }
 {
     registers[a as usize] = word;
-    Step::Next
+    InstructionResult::Next
 }
 
-/// On to `target` where the comparison holds.
-fn branch(holds: bool, target: u16) -> Step
+/// Jumps to `target` if the comparison holds.
+fn branch(holds: bool, target: u16) -> InstructionResult
     ensures { result ≡ target_where holds target }
 {
     if holds {
-        Step::To(u32::from(target))
+        InstructionResult::To(u32::from(target))
     } else {
-        Step::Next
+        InstructionResult::Next
     }
 }
 
-/// On to `target`, and a register gets the next word's address.
-fn link(counter: Word, registers: &mut [Word; 16], a: u8, target: u16) -> Step
+/// Jumps to `target`, and sets a register to the next word's address.
+fn link(counter: Word, registers: &mut [Word; 16], a: u8, target: u16) -> InstructionResult
     requires { a < 16 }
     ensures registers { registers.new ≡ slice_set registers.old a (next_counter counter) }
-    ensures goes { result ≡ Step.To target }
+    ensures goes { result ≡ InstructionResult.To target }
 {
     registers[a as usize] = counter.wrapping_add(1);
-    Step::To(u32::from(target))
+    InstructionResult::To(u32::from(target))
 }
 
-/// A register gets the word at `address`.
-fn load<B: Bus>(counter: Word, registers: &mut [Word; 16], bus: &B, a: u8, address: u32) -> Step
+/// Loads the word at `address` into a register.
+fn load<B: Bus>(
+    counter: Word,
+    registers: &mut [Word; 16],
+    bus: &B,
+    a: u8,
+    address: u32,
+) -> InstructionResult
     requires { a < 16 }
     ensures loaded { loads (machine_of (cpu_of counter registers.old) (B.words bus.now) (B.device bus.now)) a address
         ≡ quiet (machine_of (cpu_of (next_of counter result) registers.new) (B.words bus.now) (B.device bus.now)) (crossing_of result) }
@@ -252,8 +255,14 @@ fn load<B: Bus>(counter: Word, registers: &mut [Word; 16], bus: &B, a: u8, addre
     }
 }
 
-/// The word at `address` gets a register's.
-fn store<B: Bus>(counter: Word, registers: &[Word; 16], bus: &mut B, a: u8, address: u32) -> Step
+/// Stores a register's word at `address`.
+fn store<B: Bus>(
+    counter: Word,
+    registers: &[Word; 16],
+    bus: &mut B,
+    a: u8,
+    address: u32,
+) -> InstructionResult
     requires { a < 16 }
     ensures stored { stores (B.entries bus.old) (machine_of (cpu_of counter registers.now) (B.words bus.old) (B.device bus.old)) a address
         ≡ quiet (machine_of (cpu_of (next_of counter result) registers.now) (B.words bus.new) (B.device bus.new)) (crossing_of result) }
@@ -261,14 +270,20 @@ fn store<B: Bus>(counter: Word, registers: &[Word; 16], bus: &mut B, a: u8, addr
     ensures held { B.held bus.new ≡ B.held bus.old }
 {
     if bus.write(address, register(registers, a)) {
-        Step::Next
+        InstructionResult::Next
     } else {
         trap(counter, TrapCause::ForeignWrite { address })
     }
 }
 
-/// A register gets what the device gives at `port`.
-fn take<B: Bus>(counter: Word, registers: &mut [Word; 16], bus: &mut B, a: u8, port: u16) -> Step
+/// Reads a word from the device at `port` into a register.
+fn take<B: Bus>(
+    counter: Word,
+    registers: &mut [Word; 16],
+    bus: &mut B,
+    a: u8,
+    port: u16,
+) -> InstructionResult
     requires { a < 16 }
     ensures taken { past_input (machine_of (cpu_of counter registers.old) (B.words bus.old) (B.device bus.old)) a port (input_of port (B.device bus.old))
         ≡ quiet (machine_of (cpu_of (next_of counter result) registers.new) (B.words bus.new) (B.device bus.new)) (crossing_of result) }
@@ -282,7 +297,7 @@ fn take<B: Bus>(counter: Word, registers: &mut [Word; 16], bus: &mut B, a: u8, p
     }
 }
 
-/// The device gets a register's word at `port`.
+/// Writes a register's word to the device at `port`.
 fn give<B: Bus>(
     counter: Word,
     registers: &[Word; 16],
@@ -290,10 +305,10 @@ fn give<B: Bus>(
     acts: &mut ActLog,
     a: u8,
     port: u16,
-) -> Step
+) -> InstructionResult
     requires register { a < 16 }
     requires room { length acts.old < MOST_ACTS }
-    ensures turned { IsTurn
+    ensures turned { IsExecuted
         (past_output (machine_of (cpu_of counter registers.now) (B.words bus.old) (B.device bus.old)) port
         (output_of port (slice_index registers.now a) (B.device bus.old)))
         (machine_of (cpu_of (next_of counter result) registers.now) (B.words bus.new) (B.device bus.new))
@@ -304,7 +319,7 @@ fn give<B: Bus>(
 {
     let port = u32::from(port);
     if bus.output(port, register(registers, a), acts) {
-        Step::Acted
+        InstructionResult::Acted
     } else {
         trap(counter, TrapCause::BadPort { port })
     }

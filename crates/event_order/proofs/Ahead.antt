@@ -1,4 +1,4 @@
--- A way on which one event after another is taken.
+-- A way on which events are taken one after another.
 use Rattle.std.proofs.Common.{◌≡◌, ◌<◌, ℕ, zero, suc, ◌+◌, Bool, true, false, Some, List, [], ◌∷◌, ◌++◌, length, slice_get, slice_set, refl, sym, ap, ◌∙◌, subst, arith}
 use Rattle.event_order.specs.Bare.{bare_taking}
 use Rattle.event_order.specs.Ways.{IsWay, IsWayToEnd, Takes}
@@ -8,7 +8,7 @@ use Rattle.nook_data.specs.declared.steps.Event.{Event}
 use Rattle.order_defs.specs.Taking.{IsStuck, IsTimely, Leads, Taking, after_taking}
 use Rattle.run_defs.specs.Simulation.{events_count}
 
--- an event more
+-- one more event
 leads_more : (s end : Taking) (order : List ℕ) (k : ℕ) (e : Event) (rest : List Event) → slice_get end.left k ≡ Some (e ∷ rest)
     → IsTimely end.threads k e → Leads s order end → Leads s (order ++ k ∷ []) (after_taking end k e rest)
 leads_more s end [] k e rest at timely leads = (
@@ -41,7 +41,7 @@ pub way_taken : (s now next : Taking) (taken : Bool) → taken ≡ true → IsWa
 way_taken s now next false e w h = absurd (cc)
 way_taken s now next true e w h = way_more s now next h.0 h.1.0.event h.1.0.rest w h.1.0.at h.1.0.timely h.1.1
 
--- none may be taken
+-- no event may be taken
 pub way_ends : (s now next : Taking) (taken : Bool) → taken ≡ false → IsWay s now → Takes taken now next → IsWayToEnd s next
 way_ends s now next true e w h = absurd (cc)
 way_ends s now next false e w h = record {

@@ -1,11 +1,11 @@
--- The threads, as each of them takes note of an event.
+-- The threads while each of them takes note of an event.
 use Rattle.std.proofs.Common.{◌≡◌, ℕ, ◌+◌, ◌<◌, ◌≤◌, List, [], ◌∷◌, ◌++◌, append-nil, append_assoc, length, map, take, drop, get_or, set, refl, arith}
 use Rattle.std.proofs.lemmas.List.{drop-set-lt, drop_all, drop_more, take_all, take_more_set}
 use Rattle.event_order.specs.Bare.{bare}
 use Rattle.nook_data.specs.declared.steps.Event.{Event}
 use Rattle.run_defs.specs.Simulation.{ThreadState, started, thread_after, threads_after}
 
--- the threads below a number have noted the event, those from it on have not
+-- the threads below an index have noted the event, the others have not
 abbrev pub heard_below : ℕ → ℕ → Event → List ThreadState → List ThreadState
 heard_below k part e threads = take k threads ++ map bare (threads_after k part e (drop k threads))
 

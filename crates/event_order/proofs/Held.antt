@@ -1,4 +1,4 @@
--- Parts of which no event may be taken, and the first part of which an event is left.
+-- Parts with no event that may be taken, and the first part with an event left.
 use Rattle.std.proofs.Common.{◌≡◌, ℕ, suc, ◌+◌, ◌<◌, ◌≤◌, ◌==◌, Bool, true, false, true≢false, eqb-true, Some, List, [], ◌∷◌, length, map, get_or, slice_get, slice_index_or, below_more, refl, sym, ap, ◌∙◌, arith}
 use Rattle.std.proofs.lemmas.Option.{get_or_from_slice_get, slice_get-map, slice_get_read, slice_get_within}
 use Rattle.std.specs.Borrow.{Bor}
@@ -9,7 +9,7 @@ use Rattle.nook_data.proofs.Options.{same_inside}
 use Rattle.nook_data.specs.declared.steps.Event.{Event}
 use Rattle.order_defs.specs.Taking.{IsStuck, IsTimely, Taking}
 
--- ---- lists behind references
+-- ---- lists that references point to
 
 abbrev now : Bor (List Event) → List Event
 now l = l.now
@@ -24,7 +24,7 @@ list_is left k x less is = get_or_from_slice_get (lists_in left) k x.now [] (lis
 
 -- ---- no event may be taken
 
--- no event may be taken of the parts below a number
+-- no part below an index has an event that may be taken
 abbrev pub AreHeld : ℕ → Taking → Type 0
 AreHeld n s = (part : ℕ) → part < n → (event : Event) (rest : List Event) → slice_get s.left part ≡ Some (event ∷ rest)
     → IsTimely s.threads part event → ⊥
@@ -43,7 +43,7 @@ all_held n s many held part may =
 
 -- ---- an event is left
 
--- none is left of the parts below a number
+-- no part below an index has an event left
 abbrev pub AreTaken : ℕ → List (List Event) → Type 0
 AreTaken n left = (part : ℕ) → part < n → slice_index_or left part [] ≡ []
 

@@ -21,7 +21,7 @@ first_is (x ∷ rest) o at = ap {B = List (ℕ × Op)} (λ (y : ℕ × Op). y �
 pair_is : (o : ℕ × Op) (part : ℕ) (op : Op) → o.0 ≡ part → o.1 ≡ op → o ≡ (part, op)
 pair_is o part op p q = ap₂ {C = ℕ × Op} (λ (a : ℕ) (b : Op). (a, b)) p q
 
--- a thread with no open call whose next operation is on the part: it is this one where the operations are the same
+-- a thread with no open call whose next operation is on the part: it is this one if the operations are the same
 pub decided : (rest : List (ℕ × Op)) (w : Option OpenCall) (t : ThreadState) (part : ℕ) (op : Op) (o : ℕ × Op) (same : Bool)
     → caller_of rest w ≡ t → is_some w ≡ false → slice_get rest 0 ≡ Some o → o.0 ≡ part → Decides same (o.1 ≡ op)
     → Decides same (IsNextHere t part op)

@@ -1,4 +1,4 @@
--- What is left of each journal is no more than the journal.
+-- The rest of each journal is no longer than the journal.
 use Rattle.std.proofs.Common.{◌≡◌, ◌≤◌, ℕ, zero, suc, Some, List, [], ◌∷◌, length, slice_get, slice_index_or, slice_set, refl, sym, ap, ◌∙◌, subst, arith}
 use Rattle.nook_data.proofs.Options.{none_is_some, same_inside}
 use Rattle.nook_data.specs.declared.steps.Event.{Event}
@@ -9,7 +9,7 @@ as_many [] k x = refl
 as_many (y ∷ xs) zero x = refl
 as_many (y ∷ xs) (suc k) x = ap suc (as_many xs k x)
 
--- there are as many parts
+-- the number of parts stays the same
 pub as_many_left : (s end : Taking) (order : List ℕ) → Leads s order end → length end.left ≡ length s.left
 as_many_left s end [] leads = ap (λ (x : Taking). length x.left) (sym leads)
 as_many_left s end (k ∷ order) leads =

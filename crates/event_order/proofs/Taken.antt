@@ -19,7 +19,7 @@ one_taken left callers items s able is heard =
     ap₂ (λ l ts. record { left = l; threads = ts }) (map-set now left able.part able.rest) heard
     ∙ ap (λ (x : Taking). bare_taking (after_taking x able.part able.event.now able.rest.now)) is
 
--- the items of a list of so many are put in the place of as many
+-- as many new items replace all items of a list
 pub put_back : (n : ℕ) (new old : List ThreadState) → n ≡ length old → length new ≡ length old → take n (new ++ drop (length new) old) ≡ new
 put_back n new old many same =
     let over : length old ≤ length new = omega arith in

@@ -9,11 +9,11 @@ use Rattle.run_defs.specs.Simulation.{ThreadState, Waiting}
 abbrev pub bare : ThreadState → ThreadState
 bare t = record { rest = t.rest; waiting = t.waiting; answers = [] }
 
--- what is left, and the threads without their answers
+-- the events left, and the threads without their answers
 abbrev pub bare_taking : Taking → Taking
 bare_taking s = record { left = s.left; threads = map bare s.threads }
 
--- an open call, in the words of the simulation
+-- an open call, as the simulation represents it
 abbrev pub waiting_for : Option OpenCall → Option Waiting
 waiting_for None = None
 waiting_for (Some w) = Some (record { part = w.part; call = w.call })

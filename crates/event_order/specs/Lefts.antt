@@ -8,7 +8,7 @@ use Rattle.nook_data.specs.declared.steps.Event.{Event}
 abbrev pub events_in : Kept Event → List Event
 events_in journal = journal.list
 
--- of these lists the first with an event is that of this part, and it has so many
+-- the first of these lists with an event is that of this part, and it has this many
 pub record IsFirst (left : List (List Event)) (first : FirstLeft) : Type 0 where
   pub event : Event
   pub rest : List Event

@@ -7,7 +7,7 @@ use Rattle.nook_data.specs.declared.steps.Event.{Event}
 use Rattle.order_defs.specs.Taking.{IsStuck, IsTimely, Leads, MayTake, Taking, after_taking}
 use Rattle.run_defs.specs.Simulation.{ThreadState}
 
--- the lists that some references refer to
+-- the lists that these references point to
 abbrev pub lists_in : List (Bor (List Event)) → List (List Event)
 lists_in left = map (λ l. l.now) left
 
@@ -33,21 +33,21 @@ pub record IsAbleIn (s : Taking) (able : Able) : Type 0 where
   pub at : slice_get s.left able.part ≡ Some (able.event.now ∷ able.rest.now)
   pub timely : IsTimely s.threads able.part able.event.now
 
--- an event was taken, or none may be
+-- an event was taken, or none may be taken
 abbrev pub Takes : Bool → Taking → Taking → Type 0
 Takes true s t = (part : ℕ) × ((may : MayTake s part) × (t ≡ bare_taking (after_taking s part may.event may.rest)))
 Takes false s t = IsStuck s × (t ≡ s)
 
 -- ---- a way
 
--- an order leads from a state to one that is this without the answers
+-- an order leads from a state to one that, without the answers, is this one
 pub record IsWay (s now : Taking) : Type 0 where
   pub order : List ℕ
   pub end : Taking
   pub leads : Leads s order end
   pub same : bare_taking end ≡ now
 
--- it leads to one at which no event may be taken
+-- the order leads to a state at which no event may be taken
 pub record IsWayToEnd (s now : Taking) : Type 0 where
   pub way : IsWay s now
   pub stuck : IsStuck way.end

@@ -12,14 +12,14 @@ use nook_data::steps::Event;
 use std::alloc::Global;
 use std::marker::Model;
 
-/// An open call: the number of its part, from 0, and its own there.
+/// An open call: the index of its part, and its own number there.
 #[derive(Clone, Copy)]
 pub struct OpenCall {
     part: usize,
     call: u32,
 }
 
-/// A thread on its way through its script. Contracts see it with no answers.
+/// A thread on its way through its script. Contracts see it without its answers.
 #[derive(Drop)]
 pub struct Caller<'a> {
     /// The operations that it has not invoked.
@@ -66,7 +66,8 @@ impl<'a> Caller<'a> {
 
     /// The thread takes note of an event of a part.
     pub fn hear(&mut self, thread: usize, part: usize, event: &Event)
-        ensures { self.new ≡ bare (thread_after part event.now (started thread part event.now self.old)) }
+        ensures { self.new ≡ bare
+            (thread_after part event.now (started thread part event.now self.old)) }
     {
         self.start(thread, part, event);
         self.settle(part, event);
@@ -88,7 +89,7 @@ impl<'a> Caller<'a> {
         }
     }
 
-    /// If the event answers its open call, it has none.
+    /// If the event answers the thread's open call, the thread no longer has one.
     fn settle(&mut self, part: usize, event: &Event)
         ensures { self.new ≡ bare (thread_after part event.now self.old) }
     {
@@ -118,7 +119,7 @@ fn after_first(ops: &[(u32, Op)]) -> &[(u32, Op)]
     }
 }
 
-/// The threads of these scripts, each of which has invoked nothing.
+/// The threads of these scripts, before they invoke anything.
 pub fn all_callers(alloc: Global, specs: &[ThreadSpec]) -> Result<Vec<Caller<'_>>, NoMemory>
     ensures { IfOk result (λ made. made.items ≡ map opening_thread specs.now) }
 {

@@ -10,16 +10,16 @@ use nook_data::memory::NoMemory;
 use nook_data::scenario::ThreadSpec;
 use std::alloc::Global;
 
-/// The first part of which events are left: its number, from 0, and how many events.
+/// The first part with events left: its index, and how many events.
 #[derive(Clone, Copy, Debug, PartialEq, Eq)]
 pub struct FirstLeft {
     pub part: usize,
     pub count: usize,
 }
 
-/// Takes the events of these journals, of each in its order, as long as one may be taken: an invocation if its thread
-/// has no open operation and this is its next one, every other event at once. Reports the first part of which events
-/// are left; none if every event was taken.
+/// Takes the events of these journals, each journal's in order, as long as one may be taken: an invocation if its
+/// thread has no open operation and this is its next one, every other event at once. Returns the first part with
+/// events left; none if every event was taken.
 pub fn first_left(
     alloc: Global,
     threads: &[ThreadSpec],

@@ -1,4 +1,4 @@
-//! In which order the events of several parts can be taken, and the first event that no order reaches.
+//! The orders in which the events of several parts can be taken, and the first event that no order reaches.
 #![tactic(auto)]
 
 mod callers;

@@ -16,7 +16,7 @@ use nook_data::steps::Event;
 use std::alloc::Global;
 use std::marker::Model;
 
-/// An event that may be taken: the number of its part, and the events of the part after it.
+/// An event that may be taken: the index of its part, and the events of the part after it.
 #[derive(Clone, Copy)]
 pub struct Able<'a> {
     part: usize,
@@ -24,7 +24,7 @@ pub struct Able<'a> {
     rest: &'a [Event],
 }
 
-/// What is left of each part's journal, and the threads after the events that were taken.
+/// The events left of each part's journal, and the threads after the events that were taken.
 #[derive(Drop)]
 pub struct Taker<'a> {
     left: Vec<&'a [Event]>,
@@ -41,13 +41,14 @@ impl<'a> Model for Taker<'a> {
 }
 
 impl<'a> Taker<'a> {
-    /// Nothing was taken of these journals.
+    /// Starts with all events of these journals.
     pub fn new(
         alloc: Global,
         threads: &'a [ThreadSpec],
         journals: &'a [Journal],
     ) -> Result<Taker<'a>, NoMemory>
-        ensures { IfOk result (λ taker. taker ≡ opening_taking threads.now (map events_in journals.now)) }
+        ensures { IfOk result
+            (λ taker. taker ≡ opening_taking threads.now (map events_in journals.now)) }
     {
         Ok(Taker {
             left: all_left(alloc, journals)?,
@@ -55,7 +56,7 @@ impl<'a> Taker<'a> {
         })
     }
 
-    /// Takes an event if one may be taken, and reports whether it did.
+    /// Takes an event if one may be taken, and returns whether it did.
     fn take_one(&mut self) -> bool
         ensures { Takes result self.old self.new }
     {
@@ -74,7 +75,7 @@ impl<'a> Taker<'a> {
         'taking: while self.take_one() {}
     }
 
-    /// The first part of which an event is left.
+    /// The first part with an event left.
     pub fn first_left(&self) -> Option<FirstLeft>
         ensures { IsFirstIn self.now.left result }
     {
@@ -93,7 +94,7 @@ fn all_left<'a>(alloc: Global, journals: &'a [Journal]) -> Result<Vec<&'a [Event
     Ok(made)
 }
 
-/// The first event in the order of the parts that may be taken.
+/// The first event that may be taken, in the order of the parts.
 fn first_able<'a>(callers: &[Caller], left: &[&'a [Event]]) -> Option<Able<'a>>
     ensures { MatchOption result (IsStuck (taking_in left.now callers.now))
         (IsAbleIn (taking_in left.now callers.now)) }
@@ -108,7 +109,8 @@ fn first_able<'a>(callers: &[Caller], left: &[&'a [Event]]) -> Option<Able<'a>>
 
 /// The next event of a part, if it may be taken.
 fn able_at<'a>(callers: &[Caller], part: usize, events: &'a [Event]) -> Option<Able<'a>>
-    ensures { MatchOption result (IsHeld callers.now part events.now) (IsAble callers.now part events.now) }
+    ensures { MatchOption result (IsHeld callers.now part events.now)
+        (IsAble callers.now part events.now) }
 {
     let (event, rest) = events.split_first()?;
     if !is_timely(callers, part, event) {

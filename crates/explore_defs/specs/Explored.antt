@@ -9,11 +9,11 @@ use Rattle.explore_defs.specs.Outcomes.{outcome_of}
 use Rattle.explore_defs.specs.declared.outcome.Outcome.{Outcome}
 use Rattle.explore_defs.specs.declared.TheConstants.{CUT_STATUS, MOST_STATES}
 
--- What `explore` answers: a row for each outcome, with the least picks that lead to it.
+-- The result of `explore`: a row for each outcome, with the least picks that lead to it.
 
 -- ---- the outcomes
 
--- no whole run with the outcome of this one has picks before its picks
+-- a whole run with the least picks of all whole runs that have its outcome
 pub record IsFirst (scenario : Scenario) (path : Path) : Type 0 where
   pub whole : IsWholePath scenario path
   pub least : (other : Path) → IsWholePath scenario other → outcome_of other.end ≡ outcome_of path.end
@@ -25,13 +25,13 @@ pub record HasOutcome (firsts : List Path) (outcome : Outcome) : Type 0 where
   pub listed : Contains firsts first
   pub same : outcome_of first.end ≡ outcome
 
--- their picks rise
+-- the picks of the runs rise
 unfoldable pub AreRising : List Path → Type 0
 AreRising [] = Unit {0}
 AreRising (path ∷ paths) = All (λ (next : Path). comes_before path.picks next.picks ≡ true) paths × AreRising paths
 
--- the first runs of the outcomes of all whole runs, in the order of their picks; with a cut, of those whole runs whose
--- picks are not past it
+-- the first runs of the outcomes of all whole runs, in the order of their picks; with a `cut`, only of those whole runs
+-- whose picks are not past it
 pub record AreOutcomes (scenario : Scenario) (cut : Option (List ℕ)) (firsts : List Path) : Type 0 where
   pub first : All (IsFirst scenario) firsts
   pub within : All (λ (path : Path). IsWithin cut path.picks) firsts
@@ -41,7 +41,7 @@ pub record AreOutcomes (scenario : Scenario) (cut : Option (List ℕ)) (firsts :
 
 -- ---- the text
 
--- the numbers of a run, as a campaign has them
+-- the numbers of a run, as in a campaign
 abbrev pub numbers_of : Scenario → Path → MemberRow
 numbers_of scenario path = row_of scenario.parts (journals_of path.end) (answer_table path.end)
 
@@ -49,24 +49,24 @@ numbers_of scenario path = row_of scenario.parts (journals_of path.end) (answer_
 abbrev pub all_numbers : Scenario → List Path → List MemberRow
 all_numbers scenario paths = map (numbers_of scenario) paths
 
--- how many rows have a status
+-- the number of rows with a status
 abbrev pub rows_of_status : ℕ → List MemberRow → ℕ
 rows_of_status status rows = count_by (λ (row : MemberRow). row.status == status) rows
 
 -- K status S events E failures F gone G lost L picks [..]
 abbrev pub outcome_line : ℕ → MemberRow → List ℕ → List ℕ
-outcome_line place row picks =
-    decimal place ++ (with_number (codes " status ") row.status ++ (with_number (codes " events ") row.events
+outcome_line number row picks =
+    decimal number ++ (with_number (codes " status ") row.status ++ (with_number (codes " events ") row.events
     ++ (with_number (codes " failures ") row.failures ++ (with_number (codes " gone ") row.gone
     ++ (with_number (codes " lost ") row.lost ++ (with_list (codes " picks ") picks ++ line_feed))))))
 
--- the rows, the first of them number `place`
+-- the rows; the first row has number `place`
 unfoldable pub outcome_lines : ℕ → Scenario → List Path → List ℕ
-outcome_lines place scenario [] = []
-outcome_lines place scenario (path ∷ paths) =
-    outcome_line place (numbers_of scenario path) path.picks ++ outcome_lines (suc place) scenario paths
+outcome_lines number scenario [] = []
+outcome_lines number scenario (path ∷ paths) =
+    outcome_line number (numbers_of scenario path) path.picks ++ outcome_lines (suc number) scenario paths
 
--- explored N states O outcomes kept A given_up B broken C; explored front N .. if not every order was followed
+-- `explored N states O outcomes kept A given_up B broken C`; `explored front N ..` if not every order was followed
 abbrev pub explored_line : Bool → ℕ → List MemberRow → List ℕ
 explored_line is_cut states rows =
     with_number (if is_cut then codes "explored front " else codes "explored ") states
@@ -74,7 +74,7 @@ explored_line is_cut states rows =
     ++ (with_number (codes " given_up ") (rows_of_status 1 rows)
     ++ (with_number (codes " broken ") (rows_of_status 7 rows) ++ line_feed))))
 
--- the rows and the line that counts them
+-- the rows, followed by the line that counts them
 abbrev pub explored_text : Scenario → Bool → ℕ → List Path → List ℕ
 explored_text scenario is_cut states firsts =
     outcome_lines 1 scenario firsts ++ explored_line is_cut states (all_numbers scenario firsts)
@@ -92,8 +92,8 @@ last_picks [] = None
 last_picks (path ∷ []) = Some path.picks
 last_picks (path ∷ next ∷ paths) = last_picks (next ∷ paths)
 
--- a number of states was held, each after the steps of some run, and no two after those of one run; if there is a cut, it
--- is where the last of as many as may be held was reached
+-- this many states were held, each after the steps of a different run; if there is a `cut`, it has the picks of the
+-- last held state, and the number of held states is the maximum
 pub record AreStates (scenario : Scenario) (cut : Option (List ℕ)) (states : ℕ) : Type 0 where
   pub held : List Path
   pub reached : All (λ (path : Path). led (begins scenario) path.picks ≡ Some path.end) held
@@ -102,8 +102,8 @@ pub record AreStates (scenario : Scenario) (cut : Option (List ℕ)) (states : �
   pub few : states ≤ MOST_STATES
   pub full : IfSome cut (λ last. (states ≡ MOST_STATES) × (last_picks held ≡ Some last))
 
--- the text and the status that answer a scenario. How many states are held, and where a cut is, depends on which of
--- them are held as one
+-- the text and the status for a scenario. The number of held states and the position of the `cut` depend on which
+-- states are held as one
 pub record IsExplored (scenario : Scenario) (text : List ℕ) (status : ℕ) : Type 0 where
   pub cut : Option (List ℕ)
   pub states : ℕ

@@ -13,8 +13,8 @@ use Rattle.promise_defs.specs.Losses.{is_played, is_sent, losses}
 use Rattle.report_defs.specs.ReportText.{journal_acts}
 use Rattle.run_defs.specs.Simulation.{RunningPart, Simulation, answer_table}
 
--- The outcome of a run: the answers of its threads, and of each part what its lines after the events say, without the
--- number of the event that broke a clause first.
+-- The outcome of a run: the answers of its threads and, for each part, what the report shows after its events, except
+-- the number of the event that first broke a clause.
 
 -- the words of the twelve objects
 abbrev pub objects_of : List ℕ → List (List ℕ)
@@ -53,7 +53,7 @@ shown_losses class.Sound n = record no_losses { samples = n.samples; busy = n.bu
 abbrev pub clause_of : Option Break → Option ℕ
 clause_of verdict = option_map (λ (b : Break). b.clause) verdict
 
--- what is said of a part that is made from this, with its journal and the state that it ends in
+-- the outcome of a part with this specification, its journal and its final state
 abbrev pub left_by : PartSpec → List Event → PartState → PartOutcome
 left_by spec events p = record {
   objects = objects_of p.domain.memory;
@@ -65,7 +65,7 @@ left_by spec events p = record {
   broken = clause_of (first_break spec.class spec.blocks events);
 }
 
--- the outcome of each part by its journal; there is a journal for each part
+-- the outcome of each part from its journal; there is a journal for each part
 unfoldable pub parts_left : List PartSpec → List (List Event) → List PartOutcome
 parts_left [] journals = []
 parts_left (spec ∷ specs) [] = []
@@ -77,11 +77,11 @@ outcome_by specs journals answers = record { answers = answers; parts = parts_le
 
 -- ---- of a simulation
 
--- the clause that a part broke first
+-- the first clause that a part broke
 abbrev pub broken_by : RunningPart → Option ℕ
 broken_by seat = clause_of (first_break (spec_of seat).class (spec_of seat).blocks seat.run.journal)
 
--- the outcome of a part, as it stands
+-- the outcome of a part in its current state
 abbrev pub part_outcome : RunningPart → PartOutcome
 part_outcome seat = left_by (spec_of seat) seat.run.journal seat.run.state
 

@@ -1,12 +1,12 @@
-//! Definitions of every order in which the steps of a scenario may fall: the outcomes that some order has, what of a
-//! simulation decides how it goes on, and the row of each outcome.
+//! Definitions for every order in which the steps of a scenario may occur: the outcomes of all orders, what in a
+//! simulation decides how it continues, and the row of each outcome.
 #![tactic(auto)]
 
 pub mod outcome;
 
 pub use outcome::{Outcome, PartOutcome};
 
-/// How many states of a simulation are held in all.
+/// The most states of a simulation that are held in all.
 pub const MOST_STATES: u32 = 65_536;
 
 /// The status if not every order was followed.

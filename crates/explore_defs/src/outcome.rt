@@ -8,7 +8,7 @@ use nook_data::machine::Acts;
 use nook_data::same::Same;
 use nook_data::verdicts::Losses;
 
-/// What a part's lines after its events say.
+/// What the report shows of a part after its events.
 #[derive(Drop)]
 pub struct PartOutcome {
     /// The words of kernel objects 1 to 12.
@@ -17,7 +17,7 @@ pub struct PartOutcome {
     pub medium: Frames,
     /// The frames that a link sent, or the samples that a stream played.
     pub given: Acts,
-    /// The configuration last acknowledged.
+    /// The last acknowledged configuration.
     pub config: [u32; 4],
     pub losses: Losses,
     pub failures: u32,
@@ -25,14 +25,14 @@ pub struct PartOutcome {
     pub broken: Option<u8>,
 }
 
-/// What the end of a run says: the answers of its threads, and of each part what its lines after the events say.
+/// The outcome of a run: the answers of its threads and, for each part, what the report shows after its events.
 #[derive(Drop)]
 pub struct Outcome {
     pub answers: AnswerTable,
     pub parts: Items<PartOutcome>,
 }
 
-/// Whether these are the same losses.
+/// Whether the losses are the same.
 fn are_same_losses(losses: &Losses, others: &Losses) -> bool
     ensures { Decides result (losses.now ≡ others.now) }
 {

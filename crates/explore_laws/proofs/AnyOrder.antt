@@ -1,4 +1,4 @@
--- What the rows say of all schedules.
+-- What the rows say about all schedules.
 use Rattle.std.proofs.Common.{◌≡◌, ℕ, zero, suc, ◌+◌, ◌<◌, ◌||◌, ◌==◌, Bool, true, false, All, Contains, Option}
 use Rattle.std.proofs.Common.{Some, None, List, []}
 use Rattle.std.proofs.Common.{◌∷◌, cond, fold, is_some, map, nat_lt, slice_get, refl, sym, ap, ap₂, ◌∙◌, subst}
@@ -16,7 +16,7 @@ use Rattle.guard_defs.specs.FirstBreaks.{NoneBreaks}
 use Rattle.guard_defs.specs.GuardedRuns.{spec_of}
 use Rattle.nook_data.proofs.Options.{none_is_some, same_inside}
 use Rattle.nook_data.specs.Types.{Break, MemberRow, PartSpec, Scenario, ScheduleSpec}
-use Rattle.part_laws.proofs.Places.{from_map, get_map, split}
+use Rattle.part_laws.proofs.Indices.{from_map, get_map, split}
 use Rattle.promise_defs.specs.Contract.{first_break}
 use Rattle.report_defs.specs.Campaigns.{row_of}
 use Rattle.report_defs.specs.ReportText.{has_break}
@@ -66,20 +66,20 @@ abbrev clauses_of : List RunningPart → List (Option ℕ)
 clauses_of seats = map broken_by seats
 
 seats_kept : (specs : List PartSpec) (seats : List RunningPart) → AreSeatsOf specs seats
-    → has_break specs (map journal_of seats) ≡ false → (place : ℕ) (seat : RunningPart) → slice_get seats place ≡ Some seat
+    → has_break specs (map journal_of seats) ≡ false → (index : ℕ) (seat : RunningPart) → slice_get seats index ≡ Some seat
     → broken_by seat ≡ None
 unfolding has_break
-seats_kept [] [] are h place seat at = none_is_some at
-seats_kept [] (x ∷ seats) are h place seat at = absurd are
-seats_kept (spec ∷ specs) [] are h place seat at = absurd are
+seats_kept [] [] are h index seat at = none_is_some at
+seats_kept [] (x ∷ seats) are h index seat at = absurd are
+seats_kept (spec ∷ specs) [] are h index seat at = absurd are
 seats_kept (spec ∷ specs) (x ∷ seats) are h zero seat at =
     let here = or_none (is_some (first_break spec.class spec.blocks x.run.journal)) (has_break specs (map journal_of seats)) h in
     ap broken_by (sym (same_inside at))
     ∙ ap (λ (made : PartSpec). clause_of (first_break made.class made.blocks x.run.journal)) (seat_spec spec x are.0)
     ∙ ap clause_of (none_of (first_break spec.class spec.blocks x.run.journal) here.0)
-seats_kept (spec ∷ specs) (x ∷ seats) are h (suc place) seat at =
+seats_kept (spec ∷ specs) (x ∷ seats) are h (suc index) seat at =
     let here = or_none (is_some (first_break spec.class spec.blocks x.run.journal)) (has_break specs (map journal_of seats)) h in
-    seats_kept specs seats are.1 here.1 place seat at
+    seats_kept specs seats are.1 here.1 index seat at
 
 none_counted : {X : Type 0} (p : X → Bool) (xs : List X) (n : ℕ) → fold (λ a x. a + cond (p x) 1 0) n xs ≡ 0
     → (n ≡ 0) × ((k : ℕ) (x : X) → slice_get xs k ≡ Some x → p x ≡ false)
@@ -125,12 +125,12 @@ no_break None h = refl
 no_break (Some b) h = absurd (cc)
 
 kept_alike : (seats others : List RunningPart) → map part_outcome others ≡ map part_outcome seats
-    → ((place : ℕ) (seat : RunningPart) → slice_get others place ≡ Some seat → broken_by seat ≡ None)
-    → (place : ℕ) (seat : RunningPart) → slice_get seats place ≡ Some seat → broken_by seat ≡ None
-kept_alike seats others same kept place seat at =
-    let there = from_map part_outcome others place (part_outcome seat)
-    (ap (λ (xs : List _). slice_get xs place) same ∙ get_map part_outcome seats place seat at) in
-    ap (λ o. o.broken) there.2 ∙ kept place there.0 there.1
+    → ((index : ℕ) (seat : RunningPart) → slice_get others index ≡ Some seat → broken_by seat ≡ None)
+    → (index : ℕ) (seat : RunningPart) → slice_get seats index ≡ Some seat → broken_by seat ≡ None
+kept_alike seats others same kept index seat at =
+    let there = from_map part_outcome others index (part_outcome seat)
+    (ap (λ (xs : List _). slice_get xs index) same ∙ get_map part_outcome seats index seat at) in
+    ap (λ o. o.broken) there.2 ∙ kept index there.0 there.1
 
 outcome_parts : (s t : Simulation) → outcome_of s ≡ outcome_of t → map part_outcome s.parts ≡ map part_outcome t.parts
 unfolding outcome_of
@@ -141,11 +141,11 @@ pub none_breaks : (scenario : Scenario) (firsts : List Path) (spec : ScheduleSpe
 none_breaks scenario firsts spec s a none r =
     let row : HasOutcome firsts (outcome_of s) = is_row scenario firsts spec s a r in
     let first : IsFirst scenario row.first = All-contains (IsFirst scenario) firsts row.first a.first row.listed in
-    λ place seat at. no_break (first_break (spec_of seat).class (spec_of seat).blocks seat.run.journal)
+    λ index seat at. no_break (first_break (spec_of seat).class (spec_of seat).blocks seat.run.journal)
     (kept_alike s.parts row.first.end.parts (outcome_parts row.first.end s row.same)
     (seats_kept scenario.parts row.first.end.parts
     (seats_led scenario row.first.picks row.first.end first.whole.led)
-    (first_kept scenario firsts row.first none row.listed)) place seat at)
+    (first_kept scenario firsts row.first none row.listed)) index seat at)
 
 -- ---- the status
 

@@ -57,33 +57,33 @@ sounded (act.Popped frame ∷ acts) = sounded acts
 sounded (act.Played word rate volume ∷ acts) = ap (λ text. played_line (act.Played word rate volume) ++ text) (sounded acts)
 sounded (act.Register key value ∷ acts) = sounded acts
 
-device_told : (c : Class) (events : List Event) (p : PartState)
+device_reported : (c : Class) (events : List Event) (p : PartState)
     → device_lines c events p ≡ device_texts c (medium_of p.domain.device) (given_by c (journal_acts events))
-device_told class.Block events p = refl
-device_told class.Net events p = wired (journal_acts events)
-device_told class.Sound events p = sounded (journal_acts events)
+device_reported class.Block events p = refl
+device_reported class.Net events p = wired (journal_acts events)
+device_reported class.Sound events p = sounded (journal_acts events)
 
-losses_told : (c : Class) (n : Losses) → losses_lines c n ≡ losses_lines c (shown_losses c n)
-losses_told class.Block n = refl
-losses_told class.Net n = refl
-losses_told class.Sound n = refl
+losses_reported : (c : Class) (n : Losses) → losses_lines c n ≡ losses_lines c (shown_losses c n)
+losses_reported class.Block n = refl
+losses_reported class.Net n = refl
+losses_reported class.Sound n = refl
 
-verdict_told : (verdict : Option Break) → undated verdict ≡ option_map at_no_event (clause_of verdict)
-verdict_told None = refl
-verdict_told (Some b) = refl
+verdict_reported : (verdict : Option Break) → undated verdict ≡ option_map at_no_event (clause_of verdict)
+verdict_reported None = refl
+verdict_reported (Some b) = refl
 
-objects_told : (memory : List ℕ) → object_lines 1 12 memory ≡ object_texts 1 (objects_of memory)
-objects_told memory = refl
+objects_reported : (memory : List ℕ) → object_lines 1 12 memory ≡ object_texts 1 (objects_of memory)
+objects_reported memory = refl
 
 lines_by : (spec : PartSpec) (events : List Event) (p : PartState)
     → closing_lines spec events p ≡ outcome_lines spec.class (left_by spec events p)
 lines_by spec events p =
     let config : List ℕ = codes "config" ++ (flat_map spaced p.log.config ++ line_feed) in
     let failures : List ℕ = with_number (codes "failures ") p.failures ++ line_feed in
-    ap₂ (λ (a b : List ℕ). a ++ b) (objects_told p.domain.memory)
-    (ap₂ (λ (a b : List ℕ). a ++ (config ++ b)) (device_told spec.class events p)
-    (ap₂ (λ (a b : List ℕ). a ++ (failures ++ b)) (losses_told spec.class (losses events))
-    (ap contract_line (verdict_told (first_break spec.class spec.blocks events)))))
+    ap₂ (λ (a b : List ℕ). a ++ b) (objects_reported p.domain.memory)
+    (ap₂ (λ (a b : List ℕ). a ++ (config ++ b)) (device_reported spec.class events p)
+    (ap₂ (λ (a b : List ℕ). a ++ (failures ++ b)) (losses_reported spec.class (losses events))
+    (ap contract_line (verdict_reported (first_break spec.class spec.blocks events)))))
 
 pub same_lines : (spec : PartSpec) (events others : List Event) (p q : PartState) → left_by spec events p ≡ left_by spec others q
     → closing_lines spec events p ≡ closing_lines spec others q

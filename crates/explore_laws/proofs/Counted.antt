@@ -1,4 +1,4 @@
--- A run by some order: its parts are what their journals lead to, and it has an event for each step.
+-- A run in some order: its parts are what their journals lead to, and it has one event for each step.
 use Rattle.std.proofs.Common.{◌≡◌, ℕ, suc, ◌+◌, ◌*◌, ◌^◌, ◌<◌, ◌≤◌, Option, Some, None, List, [], ◌∷◌, is_some}
 use Rattle.std.proofs.Common.{◌||◌, length, map, refl, sym, ap, ap₂, ◌∙◌, subst, arith}
 use Rattle.std.specs.List.{AllByRecursion, list_any}
@@ -33,7 +33,7 @@ seats_led scenario picks t h =
     subst (λ (x : Simulation). AreSeatsOf scenario.parts x.parts) (listed_run scenario picks t h)
     (seats_of_runs (listing scenario picks) (length picks))
 
--- a part is still made from what it was made from
+-- a part is still made from its spec
 pub seat_spec : (spec : PartSpec) (seat : RunningPart) → IsSeatOf spec seat → spec_of seat ≡ spec
 seat_spec spec seat is =
     ap (λ p. p.spec) is.state ∙ spec_from (opening spec) seat.run.journal ∙ opening_spec spec
@@ -64,7 +64,7 @@ pub scheduled_left : (scenario : Scenario) (spec : ScheduleSpec) (s : Simulation
 scheduled_left scenario spec s r = outcome_left_by scenario.parts s
     (subst (λ (x : Simulation). AreSeatsOf scenario.parts x.parts) r.reached (seats_of_runs (with_schedule scenario spec) r.steps))
 
--- some part broke its contract exactly where some outcome has a clause
+-- some part broke its contract exactly if some part's outcome has a clause
 pub breaks_left : (specs : List PartSpec) (journals : List (List Event))
     → has_break specs journals ≡ list_any (λ (p : PartOutcome). is_some p.broken) (parts_left specs journals)
 unfolding has_break parts_left

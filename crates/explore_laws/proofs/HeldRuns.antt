@@ -1,4 +1,4 @@
--- A worklist of picks and presents is one of runs.
+-- A worklist of picks and presents represents one of runs.
 use Rattle.std.proofs.Common.{◌≡◌, ℕ, suc, ◌+◌, false, true, All, Contains, IfSome, is_some, Option, Some}
 use Rattle.std.proofs.Common.{None, List, [], ◌∷◌, ◌++◌, flat_map}
 use Rattle.std.proofs.Common.{get_or, length, map, slice_get, refl, sym, ap, ap₂, ◌∙◌, subst, arith, length-append}
@@ -11,16 +11,16 @@ use Rattle.explore_defs.specs.Orders.{IsOfLevel, IsWithin, Path, comes_before, f
 use Rattle.explore_defs.specs.Outcomes.{outcome_of}
 use Rattle.explore_laws.proofs.Led.{chosen_at}
 use Rattle.explore_laws.proofs.Merged.{contains_at, contains_get, get_contains, led_more, levels_find}
-use Rattle.explore_laws.proofs.RowNumbers.{numbers_told}
+use Rattle.explore_laws.proofs.RowNumbers.{numbers_reported}
 use Rattle.explore_laws.proofs.SamePresent.{choices_bare, outcome_present, present_follows}
 use Rattle.explore_laws.specs.Held.{AreFirstHeld, AreHeldLevels, AreJoined, AreRowsOf, DoRise, HasHeldOutcome}
 use Rattle.explore_laws.specs.Held.{Held, IsFilled, IsWayFrom}
-use Rattle.explore_laws.specs.Held.{StandsAmong, all_levels, choices_in, held_after, held_first, held_lines}
+use Rattle.explore_laws.specs.Held.{IsCoveredAmong, all_levels, choices_in, held_after, held_first, held_lines}
 use Rattle.explore_laws.specs.Held.{held_numbers, held_status, held_text, last_held, ways_from}
 use Rattle.explore_laws.specs.Present.{bare_run, goes_on_by, numbers_in, outcome_in, present}
 use Rattle.explore_laws.specs.Worklists.{AreFirstsOf, AreLevels, AreMerged, IsWayOn, start}
 use Rattle.nook_data.specs.Types.{MemberRow, Scenario}
-use Rattle.part_laws.proofs.Places.{from_map, get_map, length_map}
+use Rattle.part_laws.proofs.Indices.{from_map, get_map, length_map}
 use Rattle.run_defs.specs.Simulation.{Choice, Simulation, begins, choices_of}
 
 abbrev or_else : Simulation → Option Simulation → Simulation
@@ -28,11 +28,11 @@ or_else s None = s
 or_else s (Some t) = t
 
 module _ (scenario : Scenario) where
-  -- the run of what is held
+  -- the run of a stored state
   abbrev path_at : Held → Path
   path_at h = record { picks = h.picks; end = or_else (begins scenario) (led (begins scenario) h.picks) }
 
-  -- what is held is of a run of that many steps
+  -- a stored state is that of a run of this many steps
   record IsReal (n : ℕ) (h : Held) : Type 0 where
     level : IsOfLevel scenario n (path_at h)
     now : present (path_at h).end ≡ h.now
@@ -58,9 +58,9 @@ module _ (scenario : Scenario) where
   same_choices_in : (n : ℕ) (h : Held) → IsReal n h → choices_of (path_at h).end ≡ choices_in h.now
   same_choices_in n h r = sym (choices_bare (path_at h).end) ∙ ap (λ now. choices_of (bare_run now)) r.now
 
-  module _ (n : ℕ) (from : Held) (r : IsReal n from) (c : Choice) (place : ℕ) (at : slice_get (choices_of (path_at from).end) place ≡ Some c) where
+  module _ (n : ℕ) (from : Held) (r : IsReal n from) (c : Choice) (index : ℕ) (at : slice_get (choices_of (path_at from).end) index ≡ Some c) where
     after_leads : led (begins scenario) (from.picks ++ c.actor ∷ []) ≡ Some (follows (path_at from).end c)
-    after_leads = led_more from.picks (begins scenario) (path_at from).end c.actor c r.level.led (chosen_at (path_at from).end place c at)
+    after_leads = led_more from.picks (begins scenario) (path_at from).end c.actor c r.level.led (chosen_at (path_at from).end index c at)
 
     after_now : present (follows (path_at from).end c) ≡ goes_on_by from.now c
     after_now = present_follows (path_at from).end c ∙ ap (λ now. goes_on_by now c) r.now
@@ -76,25 +76,25 @@ module _ (scenario : Scenario) where
     after_path = ap (λ (end : Simulation). record { picks = from.picks ++ c.actor ∷ []; end = end })
         (real_at (suc n) (from.picks ++ c.actor ∷ []) (follows (path_at from).end c) after_leads)
 
-  -- the choice by which something is one step after another
+  -- the choice that leads from one state to the next
   record IsBy (from h : Held) : Type 0 where
     choice : Choice
-    place : ℕ
-    at : slice_get (choices_in from.now) place ≡ Some choice
+    index : ℕ
+    at : slice_get (choices_in from.now) index ≡ Some choice
     is : h ≡ held_after from choice
 
   by_choice : (from h : Held) → Contains (ways_from from) h → IsBy from h
   by_choice from h w =
       let k = contains_get (ways_from from) h w in
       let one = from_map (held_after from) (choices_in from.now) k.0 h k.1 in
-      record { choice = one.0; place = k.0; at = one.1; is = one.2 }
+      record { choice = one.0; index = k.0; at = one.1; is = one.2 }
 
   way_real : (n : ℕ) (held : List Held) (h : Held) → All (IsReal n) held → IsWayFrom held h → IsReal (suc n) h
   way_real n held h all w =
       let r : IsReal n w.from = All-contains (IsReal n) held w.from all w.is_held in
       let by : IsBy w.from h = by_choice w.from h w.is_way in
-      subst (IsReal (suc n)) (sym by.is) (after_real n w.from r by.choice by.place
-      (ap (λ (xs : List Choice). slice_get xs by.place) (same_choices_in n w.from r) ∙ by.at))
+      subst (IsReal (suc n)) (sym by.is) (after_real n w.from r by.choice by.index
+      (ap (λ (xs : List Choice). slice_get xs by.index) (same_choices_in n w.from r) ∙ by.at))
 
   -- ---- members
 
@@ -122,18 +122,18 @@ module _ (scenario : Scenario) where
   way_path n held h all w =
       let r : IsReal n w.from = All-contains (IsReal n) held w.from all w.is_held in
       let by : IsBy w.from h = by_choice w.from h w.is_way in
-      let at : slice_get (choices_of (path_at w.from).end) by.place ≡ Some by.choice =
-      ap (λ (xs : List Choice). slice_get xs by.place) (same_choices_in n w.from r) ∙ by.at in
+      let at : slice_get (choices_of (path_at w.from).end) by.index ≡ Some by.choice =
+      ap (λ (xs : List Choice). slice_get xs by.index) (same_choices_in n w.from r) ∙ by.at in
       record {
         from = path_at w.from;
         is_held = member_path held w.from w.is_held;
         is_way = subst (Contains (ways_on (path_at w.from)))
-            (sym (ap path_at by.is ∙ after_path n w.from r by.choice by.place at))
-            (get_contains (ways_on (path_at w.from)) by.place (goes_on (path_at w.from) by.choice)
-            (get_map (goes_on (path_at w.from)) (choices_of (path_at w.from).end) by.place by.choice at));
+            (sym (ap path_at by.is ∙ after_path n w.from r by.choice by.index at))
+            (get_contains (ways_on (path_at w.from)) by.index (goes_on (path_at w.from) by.choice)
+            (get_map (goes_on (path_at w.from)) (choices_of (path_at w.from).end) by.index by.choice at));
       }
 
-  -- a run that goes on from one that is held is that of what is one step after it
+  -- a run that continues a run of the worklist is the run of a state one step after a stored one
   record IsHeldWay (held : List Held) (path : Path) : Type 0 where
     of : Held
     is_way : IsWayFrom held of
@@ -168,7 +168,7 @@ module _ (scenario : Scenario) where
           (All-weaker (IsWayFrom held) (λ h. IsWayOn (paths held) (path_at h)) (λ h w. way_path n held h all w) next j.ways);
       each = λ path w within.
           let of : IsHeldWay held path = held_way n held path all w in
-          let among : StandsAmong next of.of = j.each of.of of.is_way (subst (IsWithin cut) (sym of.picks) within) in
+          let among : IsCoveredAmong next of.of = j.each of.of of.is_way (subst (IsWithin cut) (sym of.picks) within) in
           let r : IsReal (suc n) among.by = All-contains (IsReal (suc n)) next among.by more among.is_held in record {
             by = path_at among.by;
             is_held = member_path next among.by among.is_held;
@@ -284,20 +284,20 @@ module _ (scenario : Scenario) where
     numbers_held (h ∷ firsts) real =
         let r : IsSomeReal h = All-head IsSomeReal h firsts real in
         ap₂ (λ (row : MemberRow) rows. row ∷ rows)
-        (numbers_told scenario r.0 (path_at h) r.1.level
+        (numbers_reported scenario r.0 (path_at h) r.1.level
         ∙ ap₂ numbers_in (sym r.1.level.count) r.1.now)
         (numbers_held firsts (All-tail IsSomeReal h firsts real))
 
-    lines_held : (place : ℕ) (firsts : List Held) → All IsSomeReal firsts
-        → outcome_lines place scenario (paths firsts) ≡ held_lines place firsts
+    lines_held : (index : ℕ) (firsts : List Held) → All IsSomeReal firsts
+        → outcome_lines index scenario (paths firsts) ≡ held_lines index firsts
     unfolding outcome_lines
-    lines_held place [] real = refl
-    lines_held place (h ∷ firsts) real =
+    lines_held index [] real = refl
+    lines_held index (h ∷ firsts) real =
         let r : IsSomeReal h = All-head IsSomeReal h firsts real in
         ap₂ (λ (a b : List ℕ). a ++ b)
-        (ap (λ (row : MemberRow). outcome_line place row h.picks)
-        (numbers_told scenario r.0 (path_at h) r.1.level ∙ ap₂ numbers_in (sym r.1.level.count) r.1.now))
-        (lines_held (suc place) firsts (All-tail IsSomeReal h firsts real))
+        (ap (λ (row : MemberRow). outcome_line index row h.picks)
+        (numbers_reported scenario r.0 (path_at h) r.1.level ∙ ap₂ numbers_in (sym r.1.level.count) r.1.now))
+        (lines_held (suc index) firsts (All-tail IsSomeReal h firsts real))
 
     last_path : (held : List Held) → last_picks (paths held) ≡ last_held held
     unfolding last_picks last_held

@@ -1,12 +1,12 @@
--- What the contract's judge goes on from after one more event of a journal.
+-- What the contract's judge continues from after one more event of a journal.
 use Rattle.std.proofs.Common.{◌≡◌, ℕ, ◌+◌, Option, Some, None, List, [], ◌∷◌, ◌++◌, fold, option_map, refl, sym}
 use Rattle.std.proofs.Common.{ap, ◌∙◌, subst, append_assoc, append-nil}
 use Rattle.std.proofs.lemmas.List.Sums.{fold-append}
-use Rattle.contract_monitor.proofs.Stands.{stands_first, stands_more}
+use Rattle.contract_monitor.proofs.Representing.{holds_first, represents_more}
 use Rattle.contract_monitor.proofs.Tracking.{tracked}
 use Rattle.contract_monitor.specs.Judging.{event_broken}
 use Rattle.contract_monitor.specs.Keeping.{kept_first, shorter, shorter_after}
-use Rattle.contract_monitor.specs.Monitors.{Monitored, StandsFor, Tracks, after_event, break_of, or_break}
+use Rattle.contract_monitor.specs.Monitors.{Monitored, Represents, Tracks, after_event, break_of, or_break}
 use Rattle.explore_defs.specs.Outcomes.{clause_of}
 use Rattle.explore_laws.specs.Present.{broken_after, judged_from, known_next}
 use Rattle.nook_data.specs.Clauses.{clause_number}
@@ -15,21 +15,21 @@ use Rattle.promise_defs.specs.Contract.{Known, first_break, known_after, known_f
 
 -- ---- a monitor of any journal
 
-monitor_on : (class : Class) (size : ℕ) (front events : List Event) (m : Monitored) → StandsFor class size front m
-    → (n : Monitored) × StandsFor class size (front ++ events) n
-monitor_on class size front [] m s = (m, subst (λ xs. StandsFor class size xs m) (sym (append-nil front)) s)
+monitor_on : (class : Class) (size : ℕ) (front events : List Event) (m : Monitored) → Represents class size front m
+    → (n : Monitored) × Represents class size (front ++ events) n
+monitor_on class size front [] m s = (m, subst (λ xs. Represents class size xs m) (sym (append-nil front)) s)
 monitor_on class size front (e ∷ events) m s =
-    subst (λ xs. (n : Monitored) × StandsFor class size xs n) (append_assoc front (e ∷ []) events)
+    subst (λ xs. (n : Monitored) × Represents class size xs n) (append_assoc front (e ∷ []) events)
     (monitor_on class size (front ++ e ∷ []) events (after_event e m)
-    (stands_more class size front e m (after_event e m) s refl))
+    (represents_more class size front e m (after_event e m) s refl))
 
-monitor_of : (class : Class) (size : ℕ) (events : List Event) → (m : Monitored) × StandsFor class size events m
+monitor_of : (class : Class) (size : ℕ) (events : List Event) → (m : Monitored) × Represents class size events m
 monitor_of class size events = monitor_on class size [] events
-    (record { kept = kept_first class size; seen = 0; broken = None }) (stands_first class size (kept_first class size) refl)
+    (record { kept = kept_first class size; seen = 0; broken = None }) (holds_first class size (kept_first class size) refl)
 
--- ---- one event more
+-- ---- one more event
 
--- the clause that was broken first, and what the judge goes on from, are those after the event
+-- the clause that was broken first, and what the judge continues from, are those after the event
 pub record IsJudgedOn (was now : Option ℕ) (knew known : Known) (e : Event) : Type 0 where
   pub broken : now ≡ broken_after was (judged_from was knew) e
   pub from : judged_from now known ≡ known_next now (judged_from was knew) e
@@ -72,8 +72,8 @@ pub judged_on : (class : Class) (size : ℕ) (events : List Event) (e : Event)
     (fold known_after (known_first class size) events) (fold known_after (known_first class size) (events ++ e ∷ [])) e
 judged_on class size events e =
     let m = monitor_of class size events in
-    let after : StandsFor class size (events ++ e ∷ []) (after_event e m.0) =
-    stands_more class size events e m.0 (after_event e m.0) m.1 refl in
+    let after : Represents class size (events ++ e ∷ []) (after_event e m.0) =
+    represents_more class size events e m.0 (after_event e m.0) m.1 refl in
     judged_by (first_break class size events) (first_break class size (events ++ e ∷ []))
     (fold known_after (known_first class size) events) (fold known_after (known_first class size) (events ++ e ∷ []))
     m.0.kept.known (m.0.seen + 1) e (λ none. m.1.known (m.1.broken ∙ none))

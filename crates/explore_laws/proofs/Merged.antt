@@ -11,14 +11,14 @@ use Rattle.explore_defs.specs.Explored.{AreOutcomes, HasOutcome, IsFirst}
 use Rattle.explore_defs.specs.Orders.{IsOfLevel, IsWholePath, IsWithin, Path, choice_of_actor, comes_before}
 use Rattle.explore_defs.specs.Orders.{follows, goes_on, is_lower, led, ways_on}
 use Rattle.explore_defs.specs.Outcomes.{outcome_of}
-use Rattle.explore_laws.proofs.Led.{HasStep, IsPlaced, chosen_at, led_one, led_step, placed}
+use Rattle.explore_laws.proofs.Led.{HasStep, IsFoundAt, chosen_at, led_one, led_step, indexed}
 use Rattle.explore_laws.proofs.SamePresent.{same_choices, same_follows, same_outcome}
 use Rattle.explore_laws.proofs.Words.{before_asym, before_front, before_more, before_trans}
 use Rattle.explore_laws.specs.Present.{present}
-use Rattle.explore_laws.specs.Worklists.{AreFirstsOf, AreLevels, AreMerged, IsWayOn, StandFor, StandsIn, start}
+use Rattle.explore_laws.specs.Worklists.{AreFirstsOf, AreLevels, AreMerged, IsWayOn, Cover, IsCoveredIn, start}
 use Rattle.nook_data.proofs.Options.{same_inside}
 use Rattle.nook_data.specs.Types.{Scenario}
-use Rattle.part_laws.proofs.Places.{from_map, get_map, split}
+use Rattle.part_laws.proofs.Indices.{from_map, get_map, split}
 use Rattle.run_defs.specs.Simulation.{Choice, Simulation, begins, choices_of}
 
 -- ---- members of lists
@@ -33,7 +33,7 @@ none_contained : {X : Type 0} (x : X) → Contains [] x → ⊥
 none_contained x h =
     let l : h.0 < 0 = h.1 in omega arith
 
--- an item of a list, whatever stands past its end
+-- an item of a list, regardless of the default past its end
 pub contains_at : {X : Type 0} (xs : List X) (k : ℕ) (d : X) → k < length xs → Contains xs (get_or xs k d)
 contains_at xs k d l = (k, l, same_past xs k d l)
   where
@@ -42,7 +42,7 @@ contains_at xs k d l = (k, l, same_past xs k d l)
     same_past (x ∷ xs) zero d l = refl
     same_past (x ∷ xs) (suc k) d l = same_past xs k d (omega arith)
 
--- ---- a step more at the end
+-- ---- one more step at the end
 
 pub led_more : (picks : List ℕ) (s t : Simulation) (actor : ℕ) (c : Choice) → led s picks ≡ Some t
     → choice_of_actor actor t ≡ Some c → led s (picks ++ actor ∷ []) ≡ Some (follows t c)
@@ -98,9 +98,9 @@ led_last (pick ∷ next ∷ picks) (suc n) s t l h =
       end = last.end;
     }
 
--- ---- the cut
+-- ---- the limit
 
--- what comes before picks that are not past the cut is not past it either
+-- what comes before picks within the limit is also within it
 within_front : (cut : Option (List ℕ)) (front : List ℕ) (actor : ℕ) → IsWithin cut (front ++ actor ∷ []) → IsWithin cut front
 within_front None front actor h = tt
 within_front (Some last) front actor h = before_front last front actor h
@@ -110,7 +110,7 @@ within_early : (cut : Option (List ℕ)) (picks early : List ℕ) → IsWithin c
 within_early None picks early h e = tt
 within_early (Some last) picks early h e = before_trans last picks early h e
 
--- picks past the cut do not come before picks that are not
+-- picks past the limit do not come before picks within it
 past_cut : (cut : Option (List ℕ)) (picks other : List ℕ) → IsWithin cut picks
     → IsWithin cut other ⊎ (comes_before other picks ≡ false)
 past_cut None picks other h = inl tt
@@ -129,9 +129,9 @@ at_start scenario path l = by_picks path.picks path.end l.count l.led
     by_picks [] end n h = ap (λ (x : Simulation). record { picks = []; end = x }) (sym (same_inside h))
     by_picks (pick ∷ picks) end n h = absurd (omega arith)
 
-pub first_stands : (scenario : Scenario) (cut : Option (List ℕ)) → StandFor scenario cut 0 (start scenario ∷ [])
+pub first_holds : (scenario : Scenario) (cut : Option (List ℕ)) → Cover scenario cut 0 (start scenario ∷ [])
 unfolding led is_lower
-first_stands scenario cut = record {
+first_holds scenario cut = record {
   reached = λ k d l. first_reached k d l;
   each = λ path level within. record {
     by = start scenario;
@@ -145,23 +145,23 @@ first_stands scenario cut = record {
     first_reached zero d l = record { led = refl; count = refl }
     first_reached (suc k) d l = absurd (omega arith)
 
--- a way on: the choice that it is by
+-- the choice that leads to a continuation
 record IsWayBy (from path : Path) : Type 0 where
   choice : Choice
-  place : ℕ
-  at : slice_get (choices_of from.end) place ≡ Some choice
+  index : ℕ
+  at : slice_get (choices_of from.end) index ≡ Some choice
   is : path ≡ goes_on from choice
 
 way_by : (from path : Path) → Contains (ways_on from) path → IsWayBy from path
 way_by from path h =
     let k = contains_get (ways_on from) path h in
     let one = from_map (goes_on from) (choices_of from.end) k.0 path k.1 in
-    record { choice = one.0; place = k.0; at = one.1; is = one.2 }
+    record { choice = one.0; index = k.0; at = one.1; is = one.2 }
 
-way_reached : (scenario : Scenario) (n : ℕ) (from : Path) (c : Choice) (place : ℕ) → slice_get (choices_of from.end) place ≡ Some c
+way_reached : (scenario : Scenario) (n : ℕ) (from : Path) (c : Choice) (index : ℕ) → slice_get (choices_of from.end) index ≡ Some c
     → IsOfLevel scenario n from → IsOfLevel scenario (suc n) (goes_on from c)
-way_reached scenario n from c place at l = record {
-  led = led_more from.picks (begins scenario) from.end c.actor c l.led (chosen_at from.end place c at);
+way_reached scenario n from c index at l = record {
+  led = led_more from.picks (begins scenario) from.end c.actor c l.led (chosen_at from.end index c at);
   count = sum (length (from.picks ++ c.actor ∷ [])) (length from.picks) n (length-append from.picks (c.actor ∷ [])) l.count;
 }
   where
@@ -173,9 +173,9 @@ ways_reached : (scenario : Scenario) (n : ℕ) (held : List Path) (path : Path) 
 ways_reached scenario n held path all w =
     let by : IsWayBy w.from path = way_by w.from path w.is_way in
     subst (IsOfLevel scenario (suc n)) (sym by.is)
-    (way_reached scenario n w.from by.choice by.place by.at (All-contains (IsOfLevel scenario n) held w.from all w.is_held))
+    (way_reached scenario n w.from by.choice by.index by.at (All-contains (IsOfLevel scenario n) held w.from all w.is_held))
 
--- a run of the next level has a way on of a run that is held
+-- for a run of the next level, some continuation of these runs has the same present
 record HasWay (held : List Path) (cut : Option (List ℕ)) (path : Path) : Type 0 where
   way : Path
   is_way : IsWayOn held way
@@ -183,18 +183,18 @@ record HasWay (held : List Path) (cut : Option (List ℕ)) (path : Path) : Type 
   alike : present way.end ≡ present path.end
   early : comes_before path.picks way.picks ≡ false
 
-has_way : (scenario : Scenario) (cut : Option (List ℕ)) (n : ℕ) (held : List Path) (path : Path) → StandFor scenario cut n held
+has_way : (scenario : Scenario) (cut : Option (List ℕ)) (n : ℕ) (held : List Path) (path : Path) → Cover scenario cut n held
     → IsOfLevel scenario (suc n) path → IsWithin cut path.picks → HasWay held cut path
 has_way scenario cut n held path s l within =
     let last : HasLast (begins scenario) n path.picks path.end = led_last path.picks n (begins scenario) path.end l.count l.led in
     let front : Path = record { picks = last.front; end = last.before } in
     let level : IsOfLevel scenario n front = record { led = last.leads; count = last.count } in
-    let found : StandsIn held front = s.each front level
+    let found : IsCoveredIn held front = s.each front level
     (within_front cut last.front last.actor (subst (IsWithin cut) last.split_at within)) in
-    let f : IsPlaced last.actor last.choice (choices_of last.before) =
-    placed last.actor last.choice (choices_of last.before) last.chosen in
-    let at : slice_get (choices_of found.by.end) f.place ≡ Some last.choice =
-    ap (λ (xs : List Choice). slice_get xs f.place) (same_choices found.by.end last.before found.alike) ∙ f.at in
+    let f : IsFoundAt last.actor last.choice (choices_of last.before) =
+    indexed last.actor last.choice (choices_of last.before) last.chosen in
+    let at : slice_get (choices_of found.by.end) f.index ≡ Some last.choice =
+    ap (λ (xs : List Choice). slice_get xs f.index) (same_choices found.by.end last.before found.alike) ∙ f.at in
     let by_level : IsOfLevel scenario n found.by = All-contains (IsOfLevel scenario n) held found.by s.reached found.is_held in
     let way : Path = goes_on found.by last.choice in
     let early : comes_before path.picks way.picks ≡ false =
@@ -205,20 +205,20 @@ has_way scenario cut n held path s l within =
       is_way = record {
         from = found.by;
         is_held = found.is_held;
-        is_way = get_contains (ways_on found.by) f.place way (get_map (goes_on found.by) (choices_of found.by.end) f.place last.choice at);
+        is_way = get_contains (ways_on found.by) f.index way (get_map (goes_on found.by) (choices_of found.by.end) f.index last.choice at);
       };
       within = within_early cut path.picks way.picks within early;
       alike = same_follows found.by.end last.before last.choice found.alike ∙ ap present (sym last.end);
       early = early;
     }
 
-pub next_stands : (scenario : Scenario) (cut : Option (List ℕ)) (n : ℕ) (held next : List Path) → StandFor scenario cut n held
-    → AreMerged cut held next → StandFor scenario cut (suc n) next
-next_stands scenario cut n held next s m = record {
+pub next_holds : (scenario : Scenario) (cut : Option (List ℕ)) (n : ℕ) (held next : List Path) → Cover scenario cut n held
+    → AreMerged cut held next → Cover scenario cut (suc n) next
+next_holds scenario cut n held next s m = record {
   reached = All-weaker (IsWayOn held) (IsOfLevel scenario (suc n)) (λ path w. ways_reached scenario n held path s.reached w) next m.ways;
   each = λ path l within.
       let w : HasWay held cut path = has_way scenario cut n held path s l within in
-      let found : StandsIn next w.way = m.each w.way w.is_way w.within in record {
+      let found : IsCoveredIn next w.way = m.each w.way w.is_way w.within in record {
         by = found.by;
         is_held = found.is_held;
         alike = found.alike ∙ w.alike;
@@ -228,21 +228,21 @@ next_stands scenario cut n held next s m = record {
 
 -- ---- all levels
 
--- no run goes on
+-- no run can be continued
 abbrev GoNoFurther : Option (List ℕ) → List Path → Type 0
 GoNoFurther cut held = (path : Path) → IsWayOn held path → IsWithin cut path.picks → ⊥
 
 none_next : (cut : Option (List ℕ)) (held : List Path) → GoNoFurther cut held → AreMerged cut held []
 none_next cut held none = record { ways = All-nil (IsWayOn held); each = λ path w within. absurd (none path w within) }
 
-none_later : (scenario : Scenario) (cut : Option (List ℕ)) (n k : ℕ) → StandFor scenario cut n [] → StandFor scenario cut (k + n) []
-none_later scenario cut n zero s = subst (λ (m : ℕ). StandFor scenario cut m []) (same n) s
+none_later : (scenario : Scenario) (cut : Option (List ℕ)) (n k : ℕ) → Cover scenario cut n [] → Cover scenario cut (k + n) []
+none_later scenario cut n zero s = subst (λ (m : ℕ). Cover scenario cut m []) (same n) s
   where
     same : (n : ℕ) → n ≡ 0 + n
     same n = omega arith
 none_later scenario cut n (suc k) s =
-    subst (λ (m : ℕ). StandFor scenario cut m []) (same n k)
-    (next_stands scenario cut (k + n) [] [] (none_later scenario cut n k s)
+    subst (λ (m : ℕ). Cover scenario cut m []) (same n k)
+    (next_holds scenario cut (k + n) [] [] (none_later scenario cut n k s)
     (none_next cut [] (λ path w within. none_contained w.from w.is_held)))
   where
     same : (n k : ℕ) → suc (k + n) ≡ suc k + n
@@ -251,11 +251,11 @@ none_later scenario cut n (suc k) s =
 abbrev joined : List (List Path) → List Path
 joined levels = flat_map (λ level. level) levels
 
-more_held : (held more : List Path) (path : Path) → StandsIn held path → StandsIn (held ++ more) path
+more_held : (held more : List Path) (path : Path) → IsCoveredIn held path → IsCoveredIn (held ++ more) path
 more_held held more path s =
     record { by = s.by; is_held = Contains-append_left held more s.by s.is_held; alike = s.alike; early = s.early }
 
-held_later : (held more : List Path) (path : Path) → StandsIn more path → StandsIn (held ++ more) path
+held_later : (held more : List Path) (path : Path) → IsCoveredIn more path → IsCoveredIn (held ++ more) path
 held_later held more path s =
     record { by = s.by; is_held = Contains-append_right held more s.by s.is_held; alike = s.alike; early = s.early }
 
@@ -265,11 +265,11 @@ same_or_later n m l = split (n == m)
     (λ other.
     let no : n ≡ m → ⊥ = eqb-false n m other in inr (omega arith))
 
-stands_somewhere : (scenario : Scenario) (cut : Option (List ℕ)) (levels : List (List Path)) (n m : ℕ) (held : List Path) (path : Path)
-    → StandFor scenario cut n held → AreLevels cut held levels → n ≤ m → IsOfLevel scenario m path → IsWithin cut path.picks
-    → StandsIn (joined (held ∷ levels)) path
+holds_somewhere : (scenario : Scenario) (cut : Option (List ℕ)) (levels : List (List Path)) (n m : ℕ) (held : List Path) (path : Path)
+    → Cover scenario cut n held → AreLevels cut held levels → n ≤ m → IsOfLevel scenario m path → IsWithin cut path.picks
+    → IsCoveredIn (joined (held ∷ levels)) path
 unfolding AreLevels
-stands_somewhere scenario cut [] n m held path s are l level within = elim (same_or_later n m l) [
+holds_somewhere scenario cut [] n m held path s are l level within = elim (same_or_later n m l) [
   | inl same ↦ more_held held [] path (s.each path (subst (λ (k : ℕ). IsOfLevel scenario k path) same level) within)
   | inr later ↦ absurd (nothing later)
 ]
@@ -279,15 +279,15 @@ stands_somewhere scenario cut [] n m held path s are l level within = elim (same
 
     nothing : suc n ≤ m → ⊥
     nothing later =
-        let none : StandFor scenario cut ((m - suc n) + suc n) [] =
-        none_later scenario cut (suc n) (m - suc n) (next_stands scenario cut n held [] s (none_next cut held are)) in
-        let found : StandsIn [] path = none.each path (subst (λ (k : ℕ). IsOfLevel scenario k path) (sum n m later) level) within in
+        let none : Cover scenario cut ((m - suc n) + suc n) [] =
+        none_later scenario cut (suc n) (m - suc n) (next_holds scenario cut n held [] s (none_next cut held are)) in
+        let found : IsCoveredIn [] path = none.each path (subst (λ (k : ℕ). IsOfLevel scenario k path) (sum n m later) level) within in
         none_contained found.by found.is_held
-stands_somewhere scenario cut (next ∷ levels) n m held path s are l level within = elim (same_or_later n m l) [
+holds_somewhere scenario cut (next ∷ levels) n m held path s are l level within = elim (same_or_later n m l) [
   | inl same ↦ more_held held (joined (next ∷ levels)) path
       (s.each path (subst (λ (k : ℕ). IsOfLevel scenario k path) same level) within)
   | inr later ↦ held_later held (joined (next ∷ levels)) path
-      (stands_somewhere scenario cut levels (suc n) m next path (next_stands scenario cut n held next s are.0) are.1 later level within)
+      (holds_somewhere scenario cut levels (suc n) m next path (next_holds scenario cut n held next s are.0) are.1 later level within)
 ]
 
 -- after some number of steps
@@ -295,7 +295,7 @@ abbrev IsReached : Scenario → Path → Type 0
 IsReached scenario path = (n : ℕ) × IsOfLevel scenario n path
 
 all_reached : (scenario : Scenario) (cut : Option (List ℕ)) (levels : List (List Path)) (n : ℕ) (held : List Path)
-    → StandFor scenario cut n held → AreLevels cut held levels → All (IsReached scenario) (joined (held ∷ levels))
+    → Cover scenario cut n held → AreLevels cut held levels → All (IsReached scenario) (joined (held ∷ levels))
 unfolding AreLevels
 all_reached scenario cut [] n held s are =
     All-append (IsReached scenario) held []
@@ -303,26 +303,26 @@ all_reached scenario cut [] n held s are =
 all_reached scenario cut (next ∷ levels) n held s are =
     All-append (IsReached scenario) held (joined (next ∷ levels))
     (All-weaker (IsOfLevel scenario n) (IsReached scenario) (λ path l. (n, l)) held s.reached)
-    (all_reached scenario cut levels (suc n) next (next_stands scenario cut n held next s are.0) are.1)
+    (all_reached scenario cut levels (suc n) next (next_holds scenario cut n held next s are.0) are.1)
 
 -- ---- what they find
 
 module _ (scenario : Scenario) (cut : Option (List ℕ)) (held firsts : List Path)
     (reached : All (IsReached scenario) held)
-    (stand : (n : ℕ) (path : Path) → IsOfLevel scenario n path → IsWithin cut path.picks → StandsIn held path)
+    (cover : (n : ℕ) (path : Path) → IsOfLevel scenario n path → IsWithin cut path.picks → IsCoveredIn held path)
     (f : AreFirstsOf cut held firsts) where
-  ended_alike : (path : Path) → IsWholePath scenario path → (found : StandsIn held path) → choices_of found.by.end ≡ []
+  ended_alike : (path : Path) → IsWholePath scenario path → (found : IsCoveredIn held path) → choices_of found.by.end ≡ []
   ended_alike path w found = same_choices found.by.end path.end found.alike ∙ w.ended
 
-  whole_stands : (path : Path) → IsWholePath scenario path → IsWithin cut path.picks → StandsIn held path
-  whole_stands path w within = stand (length path.picks) path (record { led = w.led; count = refl }) within
+  whole_holds : (path : Path) → IsWholePath scenario path → IsWithin cut path.picks → IsCoveredIn held path
+  whole_holds path w within = cover (length path.picks) path (record { led = w.led; count = refl }) within
 
   least_of : (first : Path) → Contains firsts first → IsWithin cut first.picks → (other : Path) → IsWholePath scenario other
       → outcome_of other.end ≡ outcome_of first.end → comes_before other.picks first.picks ≡ false
   least_of first listed within other w same = elim (past_cut cut first.picks other.picks within) [
     | inr late ↦ late
     | inl other_within ↦
-        let found : StandsIn held other = whole_stands other w other_within in
+        let found : IsCoveredIn held other = whole_holds other w other_within in
         before_trans other.picks found.by.picks first.picks found.early
         (f.least first found.by listed found.is_held (ended_alike other w found) (same_outcome found.by.end other.end found.alike ∙ same))
   ]
@@ -336,7 +336,7 @@ module _ (scenario : Scenario) (cut : Option (List ℕ)) (held firsts : List Pat
 
   has_outcome : (path : Path) → IsWholePath scenario path → IsWithin cut path.picks → HasOutcome firsts (outcome_of path.end)
   has_outcome path w within =
-      let found : StandsIn held path = whole_stands path w within in
+      let found : IsCoveredIn held path = whole_holds path w within in
       subst (HasOutcome firsts) (same_outcome found.by.end path.end found.alike)
       (f.each found.by found.is_held (ended_alike path w found) (within_early cut path.picks found.by.picks within found.early))
 
@@ -352,7 +352,7 @@ pub levels_find : (scenario : Scenario) (cut : Option (List ℕ)) (levels : List
     → AreLevels cut (start scenario ∷ []) levels → AreFirstsOf cut (joined ((start scenario ∷ []) ∷ levels)) firsts
     → AreOutcomes scenario cut firsts
 levels_find scenario cut levels firsts are f =
-    let s : StandFor scenario cut 0 (start scenario ∷ []) = first_stands scenario cut in
+    let s : Cover scenario cut 0 (start scenario ∷ []) = first_holds scenario cut in
     all_found scenario cut (joined ((start scenario ∷ []) ∷ levels)) firsts
     (all_reached scenario cut levels 0 (start scenario ∷ []) s are)
-    (λ n path level within. stands_somewhere scenario cut levels 0 n (start scenario ∷ []) path s are (omega arith) level within) f
+    (λ n path level within. holds_somewhere scenario cut levels 0 n (start scenario ∷ []) path s are (omega arith) level within) f

@@ -1,4 +1,4 @@
--- A scenario has one list of rows.
+-- A scenario has exactly one list of rows.
 use Rattle.std.proofs.Common.{◌≡◌, ◌⊎◌, inl, inr, ℕ, zero, suc, ◌<◌, false, true, All, Contains, Option, None}
 use Rattle.std.proofs.Common.{List, [], ◌∷◌, length, get_or, refl, sym, ap, ap₂, ◌∙◌, subst, arith}
 use Rattle.std.proofs.lemmas.List.Elements.{All-contains}
@@ -16,11 +16,11 @@ use Rattle.sim_run.proofs.Ending.{scheduled_ends}
 -- ---- lists that rise
 
 contains_cases : {X : Type 0} (x y : X) (xs : List X) → Contains (x ∷ xs) y → (x ≡ y) ⊎ Contains xs y
-contains_cases x y xs h = by_place h.0 h.1 h.2
+contains_cases x y xs h = by_position h.0 h.1 h.2
   where
-    by_place : (k : ℕ) → k < suc (length xs) → get_or (x ∷ xs) k y ≡ y → (x ≡ y) ⊎ Contains xs y
-    by_place zero l e = inl e
-    by_place (suc k) l e = inr (k, omega arith, e)
+    by_position : (k : ℕ) → k < suc (length xs) → get_or (x ∷ xs) k y ≡ y → (x ≡ y) ⊎ Contains xs y
+    by_position zero l e = inl e
+    by_position (suc k) l e = inr (k, omega arith, e)
 
 contains_first : {X : Type 0} (x : X) (xs : List X) → Contains (x ∷ xs) x
 contains_first x xs = (0, omega arith, refl)
@@ -32,8 +32,8 @@ contains_rest x y xs h =
 true_not_false : true ≡ false → ⊥
 true_not_false e = cc
 
-abbrev IsBehind : Path → Path → Type 0
-IsBehind path next = comes_before path.picks next.picks ≡ true
+abbrev ComesAfter : Path → Path → Type 0
+ComesAfter path next = comes_before path.picks next.picks ≡ true
 
 rising_first : (x y : Path) (xs ys : List Path) → AreRising (x ∷ xs) → AreRising (y ∷ ys) → Contains (y ∷ ys) x → Contains (x ∷ xs) y
     → x ≡ y
@@ -43,8 +43,8 @@ rising_first x y xs ys rx ry there here = elim (contains_cases y x ys there) [
   | inr later ↦ elim (contains_cases x y xs here) [
     | inl same ↦ same
     | inr after ↦ absurd (true_not_false
-        (sym (All-contains (IsBehind y) ys x ry.0 later)
-        ∙ before_asym x.picks y.picks (All-contains (IsBehind x) xs y rx.0 after)))
+        (sym (All-contains (ComesAfter y) ys x ry.0 later)
+        ∙ before_asym x.picks y.picks (All-contains (ComesAfter x) xs y rx.0 after)))
   ]
 ]
 
@@ -53,7 +53,7 @@ unfolding AreRising
 rising_rest x y f xs ys rx same here there = elim (contains_cases y f ys there) [
   | inr later ↦ later
   | inl is ↦ absurd (true_not_false
-      (sym (All-contains (IsBehind x) xs f rx.0 here)
+      (sym (All-contains (ComesAfter x) xs f rx.0 here)
       ∙ ap (λ (p : Path). comes_before p.picks f.picks) (same ∙ is) ∙ before_self f.picks))
 ]
 

@@ -1,7 +1,7 @@
 -- The numbers of a run's row are those of its present.
 use Rattle.std.proofs.Common.{◌≡◌, ℕ, ◌+◌, ◌||◌, if◌then◌else◌, Bool, Option, Some, None, List, [], ◌∷◌, is_some}
 use Rattle.std.proofs.Common.{map, refl, sym, ap, ap₂, ◌∙◌}
-use Rattle.contract_monitor.proofs.Numbers.{counts_told}
+use Rattle.contract_monitor.proofs.Numbers.{counts_reported}
 use Rattle.explore_defs.specs.Explored.{numbers_of}
 use Rattle.explore_defs.specs.Orders.{IsOfLevel, Path}
 use Rattle.explore_defs.specs.Outcomes.{clause_of}
@@ -52,7 +52,7 @@ failures_in_all (spec ∷ specs) (seat ∷ seats) are =
 lost_in_all : (seats : List RunningPart) → lost_count (map journal_of seats) ≡ lost_in (map part_present seats)
 lost_in_all [] = refl
 lost_in_all (seat ∷ seats) =
-    ap₂ (λ (a b : ℕ). a + b) (ap lost_of (sym (counts_told seat.run.journal))) (lost_in_all seats)
+    ap₂ (λ (a b : ℕ). a + b) (ap lost_of (sym (counts_reported seat.run.journal))) (lost_in_all seats)
 
 -- the numbers of a row, by those of the parts
 abbrev numbers : Bool → Bool → ℕ → ℕ → ℕ → ℕ → MemberRow
@@ -70,10 +70,10 @@ same_numbers b b' g g' e e' f f' gone l l' hb hg he hf hl =
     ap (λ x. numbers x g e f gone l) hb ∙ ap (λ x. numbers b' x e f gone l) hg ∙ ap (λ x. numbers b' g' x f gone l) he
     ∙ ap (λ x. numbers b' g' e' x gone l) hf ∙ ap (λ x. numbers b' g' e' f' gone x) hl
 
-pub numbers_told : (scenario : Scenario) (steps : ℕ) (path : Path) → IsOfLevel scenario steps path
+pub numbers_reported : (scenario : Scenario) (steps : ℕ) (path : Path) → IsOfLevel scenario steps path
     → numbers_of scenario path ≡ numbers_in steps (present path.end)
 unfolding row_of present
-numbers_told scenario steps path l =
+numbers_reported scenario steps path l =
     let are : AreSeatsOf scenario.parts path.end.parts = seats_led scenario path.picks path.end l.led in
     same_numbers _ _ _ _ _ _ _ _ _ _ _
     (breaks_in scenario.parts path.end.parts are) (gone_in_all scenario.parts path.end.parts are)

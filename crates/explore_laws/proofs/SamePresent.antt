@@ -1,11 +1,11 @@
--- The present of a simulation is enough: by it are the choices, the present of what follows, and the outcome.
+-- The present of a simulation is enough: it determines the choices, the present of what follows, and the outcome.
 use Rattle.std.proofs.Common.{◌≡◌, ℕ, zero, suc, ◌+◌, Option, Some, None, List, [], ◌∷◌, ◌++◌, filter, flat_map}
 use Rattle.std.proofs.Common.{fold, length, map, option_map, slice_get, slice_set, refl, sym, ap, ◌∙◌}
 use Rattle.std.proofs.lemmas.Grind.{flat_map-append}
 use Rattle.std.proofs.lemmas.List.Elements.{filter-append}
 use Rattle.std.proofs.lemmas.List.Sums.{fold-append}
-use Rattle.contract_monitor.proofs.Numbers.{counts_more, counts_told}
-use Rattle.contract_monitor.specs.Keeping.{Counts}
+use Rattle.contract_monitor.proofs.Numbers.{counts_more, counts_reported}
+use Rattle.contract_monitor.specs.Keeping.{LossCounts}
 use Rattle.contract_monitor.specs.Monitors.{counts_of}
 use Rattle.explore_defs.specs.Orders.{follows}
 use Rattle.explore_defs.specs.Outcomes.{broken_by, clause_of, given_by, objects_of, outcome_of}
@@ -21,9 +21,9 @@ use Rattle.nook_data.specs.declared.classes.Class.TheVariants as class
 use Rattle.part_defs.specs.Runs.{event_of, next_recovery, state_after}
 use Rattle.part_defs.specs.State.{PartState}
 use Rattle.part_laws.proofs.DeviceStays.{spec_after}
-use Rattle.part_laws.proofs.Places.{map_join, map_set}
+use Rattle.part_laws.proofs.Indices.{map_join, map_set}
 use Rattle.promise_defs.specs.Contract.{Known, first_break, known_after}
-use Rattle.promise_defs.specs.Losses.{Tally, is_played, is_sent, losses, tallies_after}
+use Rattle.promise_defs.specs.Losses.{CallEffects, is_played, is_sent, losses, call_effects_after}
 use Rattle.report_defs.specs.ReportText.{journal_acts}
 use Rattle.run_defs.proofs.ChoicesInOrder.{choices_in_order, part_choices, thread_choices, with_choice, with_thread}
 use Rattle.run_defs.specs.Simulation.{Choice, RunningPart, Simulation, ThreadState, Waiting, arrival, choices_of}
@@ -86,24 +86,24 @@ given_more class.Net events e =
 given_more class.Sound events e =
     ap (filter is_played) (flat_map-append _ events (e ∷ [])) ∙ filter-append is_played (journal_acts events) (journal_acts (e ∷ []))
 
--- the present of a part, by what it is made from, its state, what is to arrive and its journal
+-- the present of a part, from its spec, its state, the frames still to arrive and its journal
 abbrev seen_as : PartState → List (List ℕ) → List Event → PartSpec → PartPresent
 seen_as state coming events spec = record {
   state = state;
   coming = coming;
   known = judged_from (clause_of (first_break spec.class spec.blocks events)) (fold known_after (known_at_first spec) events);
   broken = clause_of (first_break spec.class spec.blocks events);
-  tallies = fold tallies_after [] events;
+  call_effects = fold call_effects_after [] events;
   counts = counts_of events;
   given = given_by spec.class (journal_acts events);
 }
 
 pub same_present : (state : PartState) (coming : List (List ℕ)) (known known' : Option Known) (broken broken' : Option ℕ)
-    (tallies tallies' : List Tally) (counts counts' : Counts) (given given' : List Act) → known ≡ known' → broken ≡ broken'
-    → tallies ≡ tallies' → counts ≡ counts' → given ≡ given'
-    → ◌≡◌ {A = PartPresent} (record { state = state; coming = coming; known = known; broken = broken; tallies = tallies; counts = counts; given = given })
-    (record { state = state; coming = coming; known = known'; broken = broken'; tallies = tallies'; counts = counts'; given = given' })
-same_present state coming known known' broken broken' tallies tallies' counts counts' given given' k b o c g = cc
+    (call_effects call_effects' : List CallEffects) (counts counts' : LossCounts) (given given' : List Act) → known ≡ known' → broken ≡ broken'
+    → call_effects ≡ call_effects' → counts ≡ counts' → given ≡ given'
+    → ◌≡◌ {A = PartPresent} (record { state = state; coming = coming; known = known; broken = broken; call_effects = call_effects; counts = counts; given = given })
+    (record { state = state; coming = coming; known = known'; broken = broken'; call_effects = call_effects'; counts = counts'; given = given' })
+same_present state coming known known' broken broken' call_effects call_effects' counts counts' given given' k b o c g = cc
 
 part_more : (seat : RunningPart) (s : Step) → part_present (part_after s seat) ≡ present_after s (part_present seat)
 part_more seat s =
@@ -116,7 +116,7 @@ part_more seat s =
     ap (seen_as (state_after seat.run.state s) (coming_after s seat.coming) (events ++ e ∷ [])) (spec_after seat.run.state s)
     ∙ same_present (state_after seat.run.state s) (coming_after s seat.coming) _ _ _ _ _ _ _ _ _ _
     (j.from ∙ ap (λ o. known_next o (judged_from (broken_by seat) (known_of seat)) e) j.broken) j.broken
-    (fold-append tallies_after [] events (e ∷ [])) (sym (counts_more events e)) (given_more spec.class events e)
+    (fold-append call_effects_after [] events (e ∷ [])) (sym (counts_more events e)) (given_more spec.class events e)
 
 -- ---- the simulation after a choice
 
@@ -153,7 +153,7 @@ outcome_seen seat = ap (λ (n : Losses). record {
   losses = shown_losses (spec_of seat).class n;
   failures = seat.run.state.failures;
   broken = broken_by seat;
-}) (counts_told seat.run.journal)
+}) (counts_reported seat.run.journal)
 
 pub outcome_present : (s : Simulation) → outcome_of s ≡ outcome_in (present s)
 unfolding outcome_of present

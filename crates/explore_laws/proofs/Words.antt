@@ -1,11 +1,11 @@
--- The order of words: shorter ones first, and of one length the lower.
+-- The order of words: shorter words first; words of the same length compare number by number.
 use Rattle.std.proofs.Common.{◌≡◌, ℕ, ◌+◌, ◌<◌, ◌≤◌, ◌==◌, ◌&&◌, ◌||◌, nat_lt, Bool, true, false, List, [], ◌∷◌}
 use Rattle.std.proofs.Common.{◌++◌, length}
 use Rattle.std.proofs.Common.{refl, sym, ap₂, arith, eq-eqb, eqb-true, le-ltb, ltb-false, ltb-true, length-append}
 use Rattle.explore_defs.specs.Orders.{comes_before, is_lower}
-use Rattle.part_laws.proofs.Places.{split}
+use Rattle.part_laws.proofs.Indices.{split}
 
--- a word that is not lower: its first number is not smaller, and where it is the same the rest is not lower
+-- a word that is not lower: its first number is not smaller, and if it is the same, the rest is not lower
 record IsNotLower (x y : ℕ) (xs ys : List ℕ) : Type 0 where
   least : y ≤ x
   rest : x ≡ y → is_lower xs ys ≡ false
@@ -26,7 +26,7 @@ lower_not x y xs ys h = split (x == y)
     (λ same. rw (le-ltb x y h.least, same) (h.rest (eqb-true x y same)))
     (λ other. rw (le-ltb x y h.least, other) refl)
 
--- ---- words of one length
+-- ---- words of the same length
 
 lower_trans : (a b c : List ℕ) → length a ≡ length b → length b ≡ length c → is_lower a b ≡ false → is_lower b c ≡ false
     → is_lower a c ≡ false
@@ -112,7 +112,7 @@ before_more a b x l h =
       rest = λ e. lower_more a b x l (p.rest l);
     })
 
--- fronts of what is not past a word are not past it
+-- prefixes of what is not past a word are not past it either
 pub before_front : (w a : List ℕ) (x : ℕ) → comes_before w (a ++ x ∷ []) ≡ false → comes_before w a ≡ false
 before_front w a x h =
     let p : IsNotLower (length w) (length (a ++ x ∷ [])) w (a ++ x ∷ []) =
@@ -138,7 +138,7 @@ lower_same (x ∷ a) (y ∷ b) l h k =
     let rest : length a ≡ length b = omega arith in
     ap₂ (λ z xs. z ∷ xs) same (lower_same a b rest (p.rest same) (q.rest (sym same)))
 
--- two words of which neither comes before the other are one
+-- two words, neither of which comes before the other, are the same
 pub before_same : (a b : List ℕ) → comes_before a b ≡ false → comes_before b a ≡ false → a ≡ b
 before_same a b h k =
     let p : IsNotLower (length a) (length b) a b = not_lower (length a) (length b) a b h in

@@ -11,11 +11,11 @@ use Rattle.report_defs.specs.ReportText.{final_lines}
 abbrev pub at_no_event : ℕ → Break
 at_no_event clause = record { event = 0; clause = clause }
 
--- a verdict that does not say which event it was
+-- a verdict without the number of its event
 abbrev pub undated : Option Break → Option Break
 undated verdict = option_map (λ (b : Break). at_no_event b.clause) verdict
 
--- the lines of a part that is made from this, with its journal and the state that it ends in
+-- the lines of a part, from its spec, its journal and its final state
 abbrev pub closing_lines : PartSpec → List Event → PartState → List ℕ
 closing_lines spec events p =
     final_lines spec.class events (losses events) (undated (first_break spec.class spec.blocks events)) p

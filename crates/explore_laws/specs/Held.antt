@@ -9,7 +9,7 @@ use Rattle.explore_laws.specs.Present.{Present, bare_run, goes_on_by, numbers_in
 use Rattle.nook_data.specs.Types.{MemberRow, Scenario}
 use Rattle.run_defs.specs.Simulation.{Choice, begins, choices_of}
 
--- A worklist as a program holds it: of each run the actors of its steps and its present, and nothing else.
+-- A worklist as a program stores it: for each run the actors of its steps and its present, and nothing else.
 
 pub record Held : Type 0 where
   pub picks : List ℕ
@@ -23,33 +23,33 @@ choices_in now = choices_of (bare_run now)
 abbrev pub held_after : Held → Choice → Held
 held_after h c = record { picks = h.picks ++ c.actor ∷ []; now = goes_on_by h.now c }
 
--- after each step that may be next
+-- after each possible next step
 abbrev pub ways_from : Held → List Held
 ways_from h = map (held_after h) (choices_in h.now)
 
--- what is held at first
+-- what is stored at first
 abbrev pub held_first : Scenario → Held
 held_first scenario = record { picks = []; now = present (begins scenario) }
 
--- some of these has the present of another, and no later picks
-pub record StandsAmong (held : List Held) (h : Held) : Type 0 where
+-- one of these has the same present as another, and picks that are not later
+pub record IsCoveredAmong (held : List Held) (h : Held) : Type 0 where
   pub by : Held
   pub is_held : Contains held by
   pub alike : by.now ≡ h.now
   pub early : comes_before h.picks by.picks ≡ false
 
--- one step after one of these
+-- a state one step after one of these
 pub record IsWayFrom (held : List Held) (h : Held) : Type 0 where
   pub from : Held
   pub is_held : Contains held from
   pub is_way : Contains (ways_from from) h
 
--- of what is one step after these, some for each present
+-- some of the states one step after these, at least one for each present
 pub record AreJoined (cut : Option (List ℕ)) (held next : List Held) : Type 0 where
   pub ways : All (IsWayFrom held) next
-  pub each : (h : Held) → IsWayFrom held h → IsWithin cut h.picks → StandsAmong next h
+  pub each : (h : Held) → IsWayFrom held h → IsWithin cut h.picks → IsCoveredAmong next h
 
--- level by level, until nothing goes on
+-- level by level, until no state can be continued
 unfoldable pub AreHeldLevels : Option (List ℕ) → List Held → List (List Held) → Type 0
 AreHeldLevels cut held [] = (h : Held) → IsWayFrom held h → IsWithin cut h.picks → ⊥
 AreHeldLevels cut held (next ∷ levels) = AreJoined cut held next × AreHeldLevels cut next levels
@@ -69,7 +69,7 @@ pub record HasHeldOutcome (firsts : List Held) (outcome : Outcome) : Type 0 wher
   pub listed : Contains firsts first
   pub same : outcome_in first.now ≡ outcome
 
--- of what is held and has ended, the first of each outcome
+-- of the stored states that have ended, the first of each outcome
 pub record AreFirstHeld (cut : Option (List ℕ)) (held firsts : List Held) : Type 0 where
   pub is_held : All (Contains held) firsts
   pub ended : All (λ (h : Held). choices_in h.now ≡ []) firsts
@@ -86,7 +86,7 @@ last_held [] = None
 last_held (h ∷ []) = Some h.picks
 last_held (h ∷ next ∷ helds) = last_held (next ∷ helds)
 
--- no more is held than may be, in the order of picks, and a cut is where the last was reached
+-- no more states are stored than allowed, in the order of picks; if there is a limit, it is the picks of the last one
 pub record IsFilled (cut : Option (List ℕ)) (held : List Held) : Type 0 where
   pub rising : DoRise held
   pub few : length held ≤ MOST_STATES
@@ -96,12 +96,12 @@ pub record IsFilled (cut : Option (List ℕ)) (held : List Held) : Type 0 where
 abbrev pub held_numbers : Held → MemberRow
 held_numbers h = numbers_in (length h.picks) h.now
 
--- the rows, the first of them number `place`
+-- the rows, the first of them with this number
 abbrev pub held_lines : ℕ → List Held → List ℕ
-held_lines place [] = []
-held_lines place (h ∷ firsts) = outcome_line place (held_numbers h) h.picks ++ held_lines (suc place) firsts
+held_lines index [] = []
+held_lines index (h ∷ firsts) = outcome_line index (held_numbers h) h.picks ++ held_lines (suc index) firsts
 
--- they are the rows of the scenario: the runs of these picks are the first of their outcomes, and have these lines and
+-- these are the rows of the scenario: the runs of these picks are the first of their outcomes, and have these lines and
 -- numbers
 pub record AreRowsOf (scenario : Scenario) (cut : Option (List ℕ)) (firsts : List Held) : Type 0 where
   pub paths : List Path

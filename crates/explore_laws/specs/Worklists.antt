@@ -6,42 +6,42 @@ use Rattle.explore_defs.specs.Orders.{IsOfLevel, IsWithin, Path, comes_before, w
 use Rattle.explore_defs.specs.Outcomes.{outcome_of}
 use Rattle.explore_laws.specs.Present.{present}
 
--- Runs of one length that have one present go on alike, so that one of them may stand for all. A worklist holds such
--- runs, level by level, each of them before a cut if there is one.
+-- Runs of the same length that have the same present continue in the same way, so one of them may represent all. A
+-- worklist has such runs, level by level; if there is a limit, none of them is past it.
 
--- some of these runs has the present of another, and no later picks
-pub record StandsIn (held : List Path) (path : Path) : Type 0 where
+-- one of these runs has the same present as another, and picks that are not later
+pub record IsCoveredIn (held : List Path) (path : Path) : Type 0 where
   pub by : Path
   pub is_held : Contains held by
   pub alike : present by.end ≡ present path.end
   pub early : comes_before path.picks by.picks ≡ false
 
--- the runs stand for all runs of a number of steps
-pub record StandFor (scenario : Scenario) (cut : Option (List ℕ)) (steps : ℕ) (held : List Path) : Type 0 where
+-- these runs represent all runs with this number of steps
+pub record Cover (scenario : Scenario) (cut : Option (List ℕ)) (steps : ℕ) (held : List Path) : Type 0 where
   pub reached : All (IsOfLevel scenario steps) held
-  pub each : (path : Path) → IsOfLevel scenario steps path → IsWithin cut path.picks → StandsIn held path
+  pub each : (path : Path) → IsOfLevel scenario steps path → IsWithin cut path.picks → IsCoveredIn held path
 
--- a run that goes on from one of these
+-- a run that continues one of these
 pub record IsWayOn (held : List Path) (path : Path) : Type 0 where
   pub from : Path
   pub is_held : Contains held from
   pub is_way : Contains (ways_on from) path
 
--- of the runs that go on from these, some for each present that one of them has
+-- some of the runs that continue these, at least one for each present among the continuations
 pub record AreMerged (cut : Option (List ℕ)) (held next : List Path) : Type 0 where
   pub ways : All (IsWayOn held) next
-  pub each : (path : Path) → IsWayOn held path → IsWithin cut path.picks → StandsIn next path
+  pub each : (path : Path) → IsWayOn held path → IsWithin cut path.picks → IsCoveredIn next path
 
--- level by level, until no run goes on
+-- level by level, until no run can be continued
 unfoldable pub AreLevels : Option (List ℕ) → List Path → List (List Path) → Type 0
 AreLevels cut held [] = (path : Path) → IsWayOn held path → IsWithin cut path.picks → ⊥
 AreLevels cut held (next ∷ levels) = AreMerged cut held next × AreLevels cut next levels
 
--- the run of no step
+-- the run without steps
 abbrev pub start : Scenario → Path
 start scenario = record { picks = []; end = begins scenario }
 
--- of the runs that are held and have ended, the first of each outcome
+-- of the runs in the worklists that have ended, the first of each outcome
 pub record AreFirstsOf (cut : Option (List ℕ)) (held firsts : List Path) : Type 0 where
   pub is_held : All (Contains held) firsts
   pub ended : All (λ (path : Path). choices_of path.end ≡ []) firsts

@@ -5,7 +5,7 @@ ghost use Rattle.explore_defs.specs.Orders.{comes_before};
 ghost use Rattle.explore_laws.specs.Cases.{row_with};
 ghost use Rattle.std.specs.Prelude.{codes, false, true, ◌++◌, ◌∷◌, ◌≡◌, []};
 
-/// Shorter picks come first, and of picks of one length those with the smaller actor where they differ first. No picks
+/// Shorter picks come first; picks of the same length are ordered by the first actor in which they differ. No picks
 /// come before themselves.
 pub fn picks_are_ordered_as_words()
     ensures none { comes_before [] (0 ∷ []) ≡ true }
@@ -16,7 +16,7 @@ pub fn picks_are_ordered_as_words()
     ensures same { comes_before (2 ∷ 1 ∷ []) (2 ∷ 1 ∷ []) ≡ false }
 {}
 
-/// A row and the last lines, whole and cut.
+/// A row and the last lines, complete and limited.
 pub fn rows_are_written_so()
     ensures row { outcome_line 3 (row_with 1) (2 ∷ 0 ∷ 12 ∷ [])
         ≡ codes "3 status 1 events 30 failures 2 gone 1 lost 4 picks [2,0,12]" ++ 10 ∷ [] }
@@ -26,7 +26,7 @@ pub fn rows_are_written_so()
         ≡ codes "explored front 65536 states 1 outcomes kept 0 given_up 1 broken 0" ++ 10 ∷ [] }
 {}
 
-/// A broken contract comes before a cut, and a cut before a part that was given up.
+/// A broken contract takes precedence over the limit, and the limit over a part that was given up.
 pub fn the_status_is_that_of_the_worst()
     ensures broken { explored_status true (row_with 1 ∷ row_with 7 ∷ []) ≡ 7 }
     ensures cut { explored_status true (row_with 1 ∷ row_with 0 ∷ []) ≡ 9 }

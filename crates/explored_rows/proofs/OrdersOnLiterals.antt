@@ -21,13 +21,13 @@ use Rattle.part_defs.specs.Stages.{stops, gives_up_part, collects, resets, loads
 use Rattle.part_defs.specs.Stages.{replays_open, resumes, stage_stepped}
 use Rattle.part_defs.specs.Steps.{opening, enabled, burst_stepped, after_arrival, stepped}
 use Rattle.machine_defs.specs.BurstFaults.{faults_of_burst}
-use Rattle.machine_defs.specs.Turn.{turn}
+use Rattle.machine_defs.specs.Execution.{turn}
 use Rattle.explore_defs.specs.Orders.{led}
 use Rattle.explore_defs.specs.Outcomes.{outcome_of}
 use Rattle.promise_defs.specs.Contract.{break_from, first_break}
 use Rattle.promise_defs.specs.Losses.{losses}
 
--- a law that computes unfolds this one name, and with it every definition of a part, its runs and their orders
+-- a law that computes unfolds this one name, and with it all definitions of a part, its runs and their orders
 unfoldable pub orders_on_literals : ⊤
 unfolding led outcome_of break_from first_break losses digits u32_at word_bytes pcg32_seed
     burst burst_from after_invoke after_enter fails next_stage closes_call after_crossing reset_device opening_device with_arrival

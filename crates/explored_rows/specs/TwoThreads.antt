@@ -39,11 +39,11 @@ set_and_get = record {
 abbrev pub outcome_after : List ℕ → Option Outcome
 outcome_after picks = option_map outcome_of (led (begins set_and_get) picks)
 
--- the actors that may go on after them
+-- the actors that may continue after them
 abbrev pub actors_after : List ℕ → Option (List ℕ)
 actors_after picks = option_map (λ s. map actor_of (choices_of s)) (led (begins set_and_get) picks)
 
--- both operations are answered, the get with this value; the disk has nothing else to say
+-- both operations are answered, the get with this value; the disk has nothing else to report
 abbrev pub both_done : ℕ → Outcome
 both_done value = record {
   answers = ((0, answer.Done) ∷ []) ∷ ((0, answer.Value value) ∷ []) ∷ [];

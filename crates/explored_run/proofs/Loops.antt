@@ -1,11 +1,11 @@
--- One more part, monitor, event or act of a loop.
+-- Loops over parts, monitors, events and acts take one more item.
 use Rattle.std.proofs.Common.{◌≡◌, ℕ, zero, suc, ◌+◌, ◌<◌, ◌||◌, Bool, true, false, is_some, Option, Some, List, [], ◌∷◌, ◌++◌, filter}
 use Rattle.std.proofs.Common.{append-nil, get_or, length, map, slice_get, take, refl, sym, ap, ap₂, ◌∙◌, subst, arith}
 use Rattle.std.proofs.lemmas.Grind.{flat_map-append}
 use Rattle.std.proofs.lemmas.List.{take_more}
 use Rattle.std.proofs.lemmas.List.Elements.{filter-append}
-use Rattle.contract_monitor.proofs.Numbers.{counts_told}
-use Rattle.contract_monitor.specs.Keeping.{told}
+use Rattle.contract_monitor.proofs.Numbers.{counts_reported}
+use Rattle.contract_monitor.specs.Keeping.{losses_of}
 use Rattle.contract_monitor.specs.Monitors.{JudgeAlike, Monitored, broken_clause}
 use Rattle.explore_defs.specs.Outcomes.{clause_of, given_by, part_outcome, shown_losses}
 use Rattle.explore_defs.specs.declared.outcome.PartOutcome.{PartOutcome}
@@ -19,7 +19,7 @@ use Rattle.part_defs.specs.Runs.{PartRun}
 use Rattle.part_defs.specs.Stages.{is_given_up}
 use Rattle.report_defs.specs.Campaigns.{lost_of}
 use Rattle.report_defs.specs.ReportText.{journal_acts}
-use Rattle.report_text.specs.declared.whole_report.PartEnd.{PartEnd}
+use Rattle.run_results.specs.declared.report.PartEnd.{PartEnd}
 use Rattle.run_defs.specs.Simulation.{RunningPart}
 use Rattle.run_ends.specs.Ends.{end_of, objects_in}
 use Rattle.sim_run.specs.Branching.{run_of}
@@ -44,20 +44,20 @@ alike_more ms ns i m n l same p q a j =
     subst (MonitorsAlike (take (i + 1) ms)) (took ns i n k q)
     (subst (λ xs. MonitorsAlike xs (take i ns ++ n ∷ [])) (took ms i m l p) (alike_snoc (take i ms) (take i ns) m n a j))
 
-lost_snoc : (ms : List Monitored) (m : Monitored) → lost_by (ms ++ m ∷ []) ≡ lost_by ms + lost_of (told m.kept.counts)
-lost_snoc [] m = plus (lost_of (told m.kept.counts))
+lost_snoc : (ms : List Monitored) (m : Monitored) → lost_by (ms ++ m ∷ []) ≡ lost_by ms + lost_of (losses_of m.kept.counts)
+lost_snoc [] m = plus (lost_of (losses_of m.kept.counts))
   where
     plus : (n : ℕ) → n + 0 ≡ 0 + n
     plus n = omega arith
 lost_snoc (x ∷ ms) m =
-    ap (λ (n : ℕ). lost_of (told x.kept.counts) + n) (lost_snoc ms m)
-    ∙ plus (lost_of (told x.kept.counts)) (lost_by ms) (lost_of (told m.kept.counts))
+    ap (λ (n : ℕ). lost_of (losses_of x.kept.counts) + n) (lost_snoc ms m)
+    ∙ plus (lost_of (losses_of x.kept.counts)) (lost_by ms) (lost_of (losses_of m.kept.counts))
   where
     plus : (a b c : ℕ) → a + (b + c) ≡ a + b + c
     plus a b c = omega arith
 
 pub lost_more : (ms : List Monitored) (i : ℕ) (m : Monitored) (count lost new : ℕ) (losses : Losses) → i < length ms
-    → m ≡ get_or ms i m → count ≡ lost_by (take i ms) → losses ≡ told m.kept.counts → lost ≡ lost_of losses → new ≡ count + lost
+    → m ≡ get_or ms i m → count ≡ lost_by (take i ms) → losses ≡ losses_of m.kept.counts → lost ≡ lost_of losses → new ≡ count + lost
     → new ≡ lost_by (take (i + 1) ms)
 lost_more ms i m count lost new losses l is c t o n =
     n ∙ ap₂ (λ (a b : ℕ). a + b) c (o ∙ ap lost_of t) ∙ sym (lost_snoc (take i ms) m) ∙ ap lost_by (took ms i m l is)
@@ -160,7 +160,7 @@ outcomes_more seats i run made new h m n =
     n ∙ ap₂ (λ xs (x : PartOutcome). xs ++ x ∷ []) m (ap run_outcome (sym p.is))
     ∙ sym (map_snoc part_outcome (take i seats) p.seat) ∙ ap (map part_outcome) p.took
 
--- the monitor of the part with a number has seen its journal
+-- the monitor of the part with a number has seen the part's journal
 pub seen_run : (seats : List RunningPart) (ms : List Monitored) (i : ℕ) (run : PartRun) (m : Monitored) → HaveSeen seats ms
     → slice_get (map run_of seats) i ≡ Some run → m ≡ get_or ms i m → HasSeenRun run m
 seen_run [] ms i run m s h is = absurd cc
@@ -214,7 +214,7 @@ same_outcome p q r t u v x = cc
 
 pub outcome_is : (run : PartRun) (m : Monitored) (end : PartEnd) (given : List Act) (n : Losses) (broken : Option ℕ)
     → HasSeenRun run m → end ≡ end_of run.state → given ≡ given_in run
-    → n ≡ shown_losses run.state.spec.class (told m.kept.counts) → broken ≡ broken_clause m
+    → n ≡ shown_losses run.state.spec.class (losses_of m.kept.counts) → broken ≡ broken_clause m
     → ◌≡◌ {A = PartOutcome} (record {
       objects = end.objects;
       medium = end.medium;
@@ -227,6 +227,6 @@ pub outcome_is : (run : PartRun) (m : Monitored) (end : PartEnd) (given : List A
 unfolding end_of objects_in
 outcome_is run m end given n broken s e g l b =
     same_outcome (ap (λ (x : PartEnd). x.objects) e) (ap (λ (x : PartEnd). x.medium) e) g (ap (λ (x : PartEnd). x.config) e)
-    (l ∙ ap (λ c. shown_losses run.state.spec.class (told c)) s.counts
-    ∙ ap (shown_losses run.state.spec.class) (counts_told run.journal))
+    (l ∙ ap (λ c. shown_losses run.state.spec.class (losses_of c)) s.counts
+    ∙ ap (shown_losses run.state.spec.class) (counts_reported run.journal))
     (ap (λ (x : PartEnd). x.failures) e) (b ∙ ap clause_of s.broken)

@@ -1,9 +1,9 @@
--- The present of a simulation: what its choices are, what a step makes of it, and that two simulations have the same one.
+-- The present of a simulation: its choices, its successor after a step, and when two simulations have the same one.
 use Rattle.std.proofs.Common.{◌≡◌, ℕ, ◌<◌, Option, Some, None, List, [], ◌∷◌, length, map, slice_get, refl, sym, ap, ap₂, ◌∙◌}
 use Rattle.std.proofs.Common.{fold, subst, IfOk, Result, Ok, Err}
 use Rattle.contract_monitor.proofs.Alike.{GoAlike, alike}
 use Rattle.contract_monitor.specs.Keeping.{shorter}
-use Rattle.contract_monitor.specs.Monitors.{JudgeAlike, Monitored, StandsFor}
+use Rattle.contract_monitor.specs.Monitors.{JudgeAlike, Monitored, Represents}
 use Rattle.explore_defs.specs.Outcomes.{clause_of, given_by, outcome_of, part_outcome}
 use Rattle.explore_defs.specs.Explored.{IsExplored}
 use Rattle.explore_defs.specs.declared.outcome.Outcome.{Outcome}
@@ -24,11 +24,11 @@ use Rattle.promise_defs.specs.Contract.{Known, first_break, known_after}
 use Rattle.report_defs.specs.ReportText.{journal_acts}
 use Rattle.run_defs.specs.Schedules.{Order, round}
 use Rattle.run_defs.specs.Simulation.{Choice, RunningPart, Simulation, actor_of, answer_table, choices_of, stepped_by}
-use Rattle.sim_run.proofs.Branching.{choices_stand}
+use Rattle.sim_run.proofs.Branching.{choices_hold}
 use Rattle.sim_run.proofs.Choosing.{actors_named}
 use Rattle.sim_run.specs.Actors as ready
-use Rattle.sim_run.specs.Advanced.{standing}
-use Rattle.sim_run.specs.Branching.{SeatNow, StandAlike, seat_now}
+use Rattle.sim_run.specs.Advanced.{state_at}
+use Rattle.sim_run.specs.Branching.{SeatNow, AreStatesAlike, seat_now}
 use Rattle.sim_run.specs.Watched.{HasSeen, HaveSeen}
 
 -- ---- the choices
@@ -45,8 +45,8 @@ actors_seen s held (Err x) a h = h
 actors_seen s held (Ok actors) a h = h ∙ a ∙ sym (actors_named s) ∙ actors_present s
 
 pub index_within : (s : Simulation) (index : ℕ) → index < length (choices_in (present s))
-    → index < length (choices_of (standing (round 0) s.parts s.threads))
-index_within s index l = subst (λ (cs : List Choice). index < length cs) (sym (choices_stand s)) (choices_within s index l)
+    → index < length (choices_of (state_at (round 0) s.parts s.threads))
+index_within s index l = subst (λ (cs : List Choice). index < length cs) (sym (choices_hold s)) (choices_within s index l)
 
 -- ---- after a step
 
@@ -76,16 +76,16 @@ unfolding present
 present_unordered s o = refl
 
 after_taken : (s branch next made : Simulation) (c : Choice) (index : ℕ)
-    → slice_get (choices_of (standing (round 0) branch.parts branch.threads)) index ≡ Some c → branch ≡ s
+    → slice_get (choices_of (state_at (round 0) branch.parts branch.threads)) index ≡ Some c → branch ≡ s
     → next ≡ stepped_by branch branch.order c (slice_get branch.parts c.part) → made ≡ record next { order = round 0 }
     → IsAfter (present s) index (present made)
 after_taken s branch next made c index at b n m =
     subst (IsAfter (present s) index) (sym (ap present m ∙ present_unordered next (round 0)))
     (subst (λ (t : Simulation). IsAfter (present t) index (present next)) b
-    (present_after_step branch next branch.order c index (ap (λ cs. slice_get cs index) (sym (choices_stand branch)) ∙ at) n))
+    (present_after_step branch next branch.order c index (ap (λ cs. slice_get cs index) (sym (choices_hold branch)) ∙ at) n))
 
 pub after_held : (s branch next : Simulation) (c : Choice) (index : ℕ) (r : Result Simulation NoMemory)
-    → slice_get (choices_of (standing (round 0) branch.parts branch.threads)) index ≡ Some c → branch ≡ s
+    → slice_get (choices_of (state_at (round 0) branch.parts branch.threads)) index ≡ Some c → branch ≡ s
     → next ≡ stepped_by branch branch.order c (slice_get branch.parts c.part)
     → IfOk r (λ made. made ≡ record next { order = round 0 }) → IfOk r (λ made. IsAfter (present s) index (present made))
 after_held s branch next c index (Err x) at b n h = h
@@ -108,7 +108,7 @@ abbrev seat_from : PartState → List (List ℕ) → List Event → RunningPart
 seat_from state coming events = record { run = record { state = state; journal = events }; coming = coming }
 
 journals_alike : (state : PartState) (coming : List (List ℕ)) (events others : List Event) (m n : Monitored)
-    → StandsFor state.spec.class state.spec.blocks events m → StandsFor state.spec.class state.spec.blocks others n
+    → Represents state.spec.class state.spec.blocks events m → Represents state.spec.class state.spec.blocks others n
     → JudgeAlike m n
     → given_by state.spec.class (journal_acts events) ≡ given_by state.spec.class (journal_acts others)
     → part_present (seat_from state coming events) ≡ part_present (seat_from state coming others)
@@ -118,12 +118,12 @@ journals_alike state coming events others m n s t j g =
     same_present state coming _ _ _ _ _ _ _ _ _ _
     (same_from (first_break spec.class spec.blocks events) (first_break spec.class spec.blocks others)
     (fold known_after (known_at_first spec) events) (fold known_after (known_at_first spec) others) a.broken a.known)
-    a.broken a.tallies a.counts g
+    a.broken a.call_effects a.counts g
 
 seats_alike : (p q : RunningPart) (m n : Monitored) → seat_now p ≡ seat_now q → HasSeen p m → HasSeen q n → JudgeAlike m n
     → given_at p ≡ given_at q → part_present p ≡ part_present q
 seats_alike p q m n same s t j g =
-    subst (λ (x : SeatNow). StandsFor x.state.spec.class x.state.spec.blocks q.run.journal n
+    subst (λ (x : SeatNow). Represents x.state.spec.class x.state.spec.blocks q.run.journal n
     → given_at p ≡ given_by x.state.spec.class (journal_acts q.run.journal)
     → part_present p ≡ part_present (seat_from x.state x.coming q.run.journal)) same
     (λ t g. journals_alike p.run.state p.coming p.run.journal q.run.journal m n s t j g) t g
@@ -163,7 +163,7 @@ pub explored : (scenario : Scenario) (r : Result Explored NoMemory) → IfOk r (
 explored scenario (Err x) h = h
 explored scenario (Ok found) h = found_answer scenario found h
 
-pub same_now : (s t : Simulation) (ms ns : List Monitored) → StandAlike s t → HaveSeen s.parts ms → HaveSeen t.parts ns
+pub same_now : (s t : Simulation) (ms ns : List Monitored) → AreStatesAlike s t → HaveSeen s.parts ms → HaveSeen t.parts ns
     → MonitorsAlike ms ns → map given_at s.parts ≡ map given_at t.parts → present s ≡ present t
 unfolding present
 same_now s t ms ns a seen others j g =

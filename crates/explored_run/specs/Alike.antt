@@ -1,5 +1,5 @@
 use Rattle.std.specs.Prelude.{Bool, false, List, [], ◌∷◌}
-use Rattle.contract_monitor.specs.Monitors.{JudgeAlike, Monitored, StandsFor}
+use Rattle.contract_monitor.specs.Monitors.{JudgeAlike, Monitored, Represents}
 use Rattle.explore_defs.specs.Outcomes.{given_by, left_by}
 use Rattle.explore_defs.specs.declared.outcome.PartOutcome.{PartOutcome}
 use Rattle.nook_data.specs.Types.{Act, Class, Event}
@@ -10,9 +10,9 @@ use Rattle.promise_defs.specs.Losses.{is_played, is_sent}
 use Rattle.report_defs.specs.ReportText.{journal_acts}
 use Rattle.run_defs.specs.Simulation.{RunningPart}
 
--- What two simulations are compared by, beside the states of their parts.
+-- How two simulations are compared, besides the states of their parts.
 
--- the report of a part of a class lists the act
+-- the report of a part of this class lists the act
 abbrev pub is_given : Class → Act → Bool
 is_given class.Block a = false
 is_given class.Net a = is_sent a
@@ -30,7 +30,7 @@ given_in run = given_by run.state.spec.class (journal_acts run.journal)
 abbrev pub given_at : RunningPart → List Act
 given_at seat = given_in seat.run
 
--- each two monitors judge alike
+-- the monitors of both lists judge alike, in pairs
 abbrev pub MonitorsAlike : List Monitored → List Monitored → Type 0
 MonitorsAlike [] [] = Unit {0}
 MonitorsAlike [] (n ∷ others) = ⊥
@@ -39,7 +39,7 @@ MonitorsAlike (m ∷ monitors) (n ∷ others) = JudgeAlike m n × MonitorsAlike 
 
 -- a monitor has seen a part's journal
 abbrev pub HasSeenRun : PartRun → Monitored → Type 0
-HasSeenRun run m = StandsFor run.state.spec.class run.state.spec.blocks run.journal m
+HasSeenRun run m = Represents run.state.spec.class run.state.spec.blocks run.journal m
 
 -- the outcome of a part
 abbrev pub run_outcome : PartRun → PartOutcome

@@ -1,4 +1,4 @@
-//! Digests of what tells simulations apart beside their parts' memories: what disks hold, and what reports will list.
+//! Digests of what distinguishes simulations besides their parts' memories: disk contents, and what reports list later.
 
 use nook_data::classes::Class;
 use nook_data::digest::mixed_words;
@@ -7,7 +7,7 @@ use nook_data::steps::Event;
 use part_core::PackedPart;
 use sim_run::PackedSimulation;
 
-/// A digest, and what the parts' devices were given with it.
+/// Mixes the disk blocks and listed acts of all parts into a digest.
 pub fn digest_of_parts(digest: u64, simulation: &PackedSimulation) -> u64 {
     let mut digest = digest;
     for number in 0..simulation.part_count() {
@@ -16,7 +16,7 @@ pub fn digest_of_parts(digest: u64, simulation: &PackedSimulation) -> u64 {
     digest
 }
 
-/// A digest, and the blocks of a part's disk, or the acts that its report lists.
+/// Mixes the blocks of a part's disk, or the acts that its report lists, into a digest.
 fn digest_of_part(digest: u64, part: &PackedPart) -> u64 {
     match part.spec().class {
         Class::Block => mixed_medium(digest, part),
@@ -25,7 +25,7 @@ fn digest_of_part(digest: u64, part: &PackedPart) -> u64 {
     }
 }
 
-/// A digest, and the blocks of a part's disk.
+/// Mixes the blocks of a part's disk into a digest.
 fn mixed_medium(digest: u64, part: &PackedPart) -> u64 {
     let mut digest = digest;
     for block in part.medium() {
@@ -34,7 +34,7 @@ fn mixed_medium(digest: u64, part: &PackedPart) -> u64 {
     digest
 }
 
-/// A digest, and the frames that a part sent or the samples that it played.
+/// Mixes the frames that a part sent or the samples that it played into a digest.
 fn mixed_acts(digest: u64, part: &PackedPart) -> u64 {
     let mut digest = digest;
     for event in part.journal().as_slice() {
@@ -43,7 +43,7 @@ fn mixed_acts(digest: u64, part: &PackedPart) -> u64 {
     digest
 }
 
-/// A digest, and those of an event.
+/// Mixes the listed acts of an event into a digest.
 fn mixed_event(digest: u64, event: &Event) -> u64 {
     match event {
         Event::Burst { acts, .. } => mixed_burst(digest, acts.as_slice()),
@@ -51,7 +51,7 @@ fn mixed_event(digest: u64, event: &Event) -> u64 {
     }
 }
 
-/// A digest, and those of a burst's acts.
+/// Mixes the listed acts of a burst into a digest.
 fn mixed_burst(digest: u64, acts: &[Act]) -> u64 {
     let mut digest = digest;
     for act in acts {
@@ -60,7 +60,7 @@ fn mixed_burst(digest: u64, acts: &[Act]) -> u64 {
     digest
 }
 
-/// A digest, and the words of an act that is listed.
+/// Mixes the words of a listed act into a digest.
 fn mixed_act(digest: u64, act: &Act) -> u64 {
     match act {
         Act::Sent { frame } => mixed_words(digest, frame.as_slice()),

@@ -30,9 +30,10 @@ pub fn given_of(alloc: Global, class: Class, events: &[Event]) -> Result<Acts, N
     Ok(given)
 }
 
-/// Adds those of an event.
+/// Adds the listed acts of an event.
 fn add_given(alloc: Global, class: Class, event: &Event, given: &mut Acts) -> Result<(), NoMemory>
-    ensures { OnOk result (given.new ≡ given.old ++ filter (is_given class) (event_acts event.now)) }
+    ensures { OnOk result
+        (given.new ≡ given.old ++ filter (is_given class) (event_acts event.now)) }
 {
     match event {
         Event::Burst { acts, .. } => add_given_acts(alloc, class, acts.as_slice(), given),
@@ -40,7 +41,7 @@ fn add_given(alloc: Global, class: Class, event: &Event, given: &mut Acts) -> Re
     }
 }
 
-/// Adds those of some acts.
+/// Adds those of some acts that are listed.
 fn add_given_acts(
     alloc: Global,
     class: Class,
@@ -68,8 +69,8 @@ fn is_given(class: Class, act: &Act) -> bool
     }
 }
 
-/// Whether the parts of two simulations have the same acts that their reports list. Without memory to list them this is
-/// denied.
+/// Whether the reports of both simulations' parts list the same acts. If memory runs out while they are listed, the
+/// answer is no.
 #[tactic(auto, using(crate::proofs::Loops::given_alike_more))]
 pub fn are_given_alike(
     alloc: Global,
@@ -89,7 +90,7 @@ pub fn are_given_alike(
     true
 }
 
-/// Whether two parts have the same acts that their reports list.
+/// Whether the reports of two parts list the same acts.
 fn is_given_alike(alloc: Global, part: &PackedPart, other: &PackedPart) -> bool
     ensures { result ≡ true → given_in part.now ≡ given_in other.now }
 {

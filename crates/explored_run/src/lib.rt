@@ -1,4 +1,4 @@
-//! A scenario run in every order of its steps: a simulation that stands after some steps, and the search over all of
+//! Runs a scenario in every order of its steps: a simulation after some of its steps, and the search over all of
 //! them.
 #![tactic(auto)]
 
@@ -6,8 +6,8 @@ mod digests;
 mod exploring;
 mod given;
 mod outcomes;
-mod standing;
+mod packed_moment;
 mod sums;
 
 pub use exploring::explore;
-pub use standing::Standing;
+pub use packed_moment::PackedMoment;

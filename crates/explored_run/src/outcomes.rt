@@ -1,4 +1,4 @@
-//! The outcomes of the parts of a simulation, as it stands.
+//! The outcomes of the parts of a simulation in its current state.
 
 ghost use Rattle.explore_defs.specs.Outcomes.{part_outcome, shown_losses};
 ghost use Rattle.explored_run.specs.Alike.{HasSeenRun, run_outcome};
@@ -13,8 +13,8 @@ use nook_data::lists::Items;
 use nook_data::memory::NoMemory;
 use nook_data::verdicts::Losses;
 use part_core::Part;
-use report_text::PartEnd;
 use run_ends::end_of;
+use run_results::PartEnd;
 use sim_run::Simulating;
 use std::alloc::Global;
 

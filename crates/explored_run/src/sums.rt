@@ -1,4 +1,4 @@
-//! What is summed up of a simulation as it stands.
+//! Sums over the parts of a simulation in its current state.
 
 ghost use Rattle.explored_run.specs.Sums.{any_broken, any_given_up, failures_of, lost_by};
 ghost use Rattle.part_defs.specs.Stages.{is_given_up};
@@ -11,7 +11,7 @@ use nook_data::verdicts::Losses;
 use part_core::Part;
 use sim_run::Simulating;
 
-/// The failures of all parts. A sum that has no room in 64 bits is refused as memory is.
+/// The failures of all parts. A sum that does not fit in 64 bits is refused as if memory had run out.
 pub fn count_failures(simulation: &Simulating) -> Result<u64, NoMemory>
     ensures { IfOk result (λ count. count ≡ failures_of simulation.now.parts) }
 {
@@ -22,7 +22,7 @@ pub fn count_failures(simulation: &Simulating) -> Result<u64, NoMemory>
     Ok(count)
 }
 
-/// What was lost in all parts.
+/// The losses of all parts.
 #[tactic(auto, using(crate::proofs::Loops::lost_more))]
 pub fn count_lost(monitors: &[Monitor]) -> Result<u64, NoMemory>
     ensures { IfOk result (λ count. count ≡ lost_by monitors.now) }
@@ -34,7 +34,7 @@ pub fn count_lost(monitors: &[Monitor]) -> Result<u64, NoMemory>
     Ok(count)
 }
 
-/// The sends, samples and answers Busy that were lost.
+/// The number of lost sends, lost samples and answers Busy.
 fn lost_of(losses: &Losses) -> Result<u64, NoMemory>
     ensures { IfOk result (λ lost. lost ≡ lost_of losses.now) }
 {
@@ -48,7 +48,7 @@ fn add(count: u64, more: u64) -> Result<u64, NoMemory>
     count.checked_add(more).ok_or(NoMemory)
 }
 
-/// Whether some part has broken a clause.
+/// Whether a part has broken a clause.
 #[tactic(auto, using(crate::proofs::Loops::broken_more, crate::proofs::Loops::broken_at))]
 pub fn is_any_broken(monitors: &[Monitor]) -> bool
     ensures { result ≡ any_broken monitors.now }
@@ -61,7 +61,7 @@ pub fn is_any_broken(monitors: &[Monitor]) -> bool
     false
 }
 
-/// Whether some part was given up.
+/// Whether a part was given up.
 #[tactic(auto, using(crate::proofs::Loops::given_up_more, crate::proofs::Loops::given_up_at))]
 pub fn is_any_given_up(simulation: &Simulating) -> bool
     ensures { result ≡ any_given_up simulation.now.parts }

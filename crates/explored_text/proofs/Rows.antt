@@ -10,14 +10,14 @@ use Rattle.nook_data.specs.Types.{MemberRow}
 use Rattle.order_search.specs.Found.{numbers_in_row, row_lines}
 use Rattle.order_search.specs.declared.rows.OutcomeRow.{OutcomeRow}
 
--- what is left of the lines begins with the next one
-pub next_row : (rows : List OutcomeRow) (i place : ℕ) (row : OutcomeRow) → i < length rows → row ≡ get_or rows i row →
-    row_lines place (drop i rows) ≡ outcome_line place row.numbers row.picks ++ row_lines (place + 1) (drop (i + 1) rows)
-next_row rows i place row h e = rw (drop-cons rows i row h, add-one place, add-one i, sym e) refl
+-- the remaining lines begin with the next one
+pub next_row : (rows : List OutcomeRow) (i number : ℕ) (row : OutcomeRow) → i < length rows → row ≡ get_or rows i row →
+    row_lines number (drop i rows) ≡ outcome_line number row.numbers row.picks ++ row_lines (number + 1) (drop (i + 1) rows)
+next_row rows i number row h e = rw (drop-cons rows i row h, add-one number, add-one i, sym e) refl
 
--- none is left behind the last one
-pub no_row : (rows : List OutcomeRow) (i place : ℕ) → length rows ≤ i → row_lines place (drop i rows) ≡ []
-no_row rows i place h = ap (row_lines place) (drop_all i rows h)
+-- no line remains after the last one
+pub no_row : (rows : List OutcomeRow) (i number : ℕ) → length rows ≤ i → row_lines number (drop i rows) ≡ []
+no_row rows i number h = ap (row_lines number) (drop_all i rows h)
 
 -- rows are counted by their numbers
 pub count_rows : (status : ℕ) (rows : List OutcomeRow) →

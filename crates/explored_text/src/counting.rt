@@ -2,13 +2,13 @@
 
 ghost use Rattle.explore_defs.specs.Explored.{rows_of_status};
 ghost use Rattle.order_search.specs.Found.{found_status, numbers_in_row};
-ghost use Rattle.report_text.specs.Statuses.{status_number};
+ghost use Rattle.run_results.specs.Statuses.{status_number};
 ghost use Rattle.std.specs.Prelude.{◌≡◌, map};
 
 use order_search::{Explored, OutcomeRow};
-use report_text::ReportStatus;
+use run_results::ReportStatus;
 
-/// How many rows have a status.
+/// The number of rows with a status.
 pub fn count_of(status: ReportStatus, rows: &[OutcomeRow]) -> u64
     ensures { result ≡ rows_of_status (status_number status) (map numbers_in_row rows.now) }
 {
@@ -22,7 +22,7 @@ pub fn count_of(status: ReportStatus, rows: &[OutcomeRow]) -> u64
     count
 }
 
-/// The status of what was found: 7 if some order breaks a contract, else 9 if not every order was followed, else 1 if
+/// The status of the result: 7 if some order breaks a contract, else 9 if not every order was followed, else 1 if
 /// some order ends with a part that was given up, else 0.
 pub fn status_of(found: &Explored) -> u8
     ensures { result ≡ found_status found.now }

@@ -1,36 +1,37 @@
-//! The lines: one for each outcome, and the one that counts them. Each call adds its text to a line, which its maker
-//! drops after `NoMemory`.
+//! The lines: one for each outcome, and one that counts them. Each call appends text to a line. The caller drops
+//! the line after `NoMemory`.
 
 ghost use Rattle.explore_defs.specs.Explored.{explored_line, outcome_line, rows_of_status};
 ghost use Rattle.explored_text.specs.Ends.{last_end, row_end};
 ghost use Rattle.order_search.specs.Found.{numbers_in_row};
 ghost use Rattle.report_defs.specs.ReportLines.{inner_words, with_list, with_number};
 ghost use Rattle.report_defs.specs.Views.Reporting.{comma_words};
-ghost use Rattle.report_text.specs.Statuses.{status_number};
+ghost use Rattle.run_results.specs.Statuses.{status_number};
 ghost use Rattle.std.specs.Prelude.{◌≡◌, ◌++◌, OnOk, codes, if◌then◌else◌, map};
 
 use crate::counting::count_of;
 use nook_data::campaign::MemberRow;
 use nook_data::memory::NoMemory;
 use order_search::{Explored, OutcomeRow};
-use report_text::{Line, ReportStatus, push_number};
+use report_text::{Line, push_number};
+use run_results::ReportStatus;
 
-/// Adds the line of an outcome: its place among the outcomes, the numbers of its run, and the picks that lead to it.
+/// Appends the line of an outcome: its number among the outcomes, the counts of its run, and the picks that lead to it.
 pub fn push_row(
     line: &mut Line,
-    place: u64,
+    position: u64,
     numbers: &MemberRow,
     picks: &[u32],
 ) -> Result<(), NoMemory>
-    ensures { OnOk result (line.new ≡ line.old ++ outcome_line place numbers.now picks.now) }
+    ensures { OnOk result (line.new ≡ line.old ++ outcome_line position numbers.now picks.now) }
 {
-    line.number(place)?;
+    line.number(position)?;
     push_number(line, " status ", u64::from(numbers.status))?;
     push_number(line, " events ", numbers.events)?;
     push_row_end(line, numbers, picks)
 }
 
-/// Adds the rest of the line, from the failures on.
+/// Appends the rest of the line, from the failures on.
 fn push_row_end(line: &mut Line, numbers: &MemberRow, picks: &[u32]) -> Result<(), NoMemory>
     ensures { OnOk result (line.new ≡ line.old ++ row_end numbers.now picks.now) }
 {
@@ -41,7 +42,7 @@ fn push_row_end(line: &mut Line, numbers: &MemberRow, picks: &[u32]) -> Result<(
     line.push("\n")
 }
 
-/// Adds picks in brackets.
+/// Appends picks in brackets.
 fn push_picks(line: &mut Line, picks: &[u32]) -> Result<(), NoMemory>
     ensures { OnOk result (line.new ≡ line.old ++ with_list (codes " picks ") picks.now) }
 {
@@ -51,7 +52,7 @@ fn push_picks(line: &mut Line, picks: &[u32]) -> Result<(), NoMemory>
     line.push("]")
 }
 
-/// Adds words with commas between them.
+/// Appends words with commas between them.
 fn push_words(line: &mut Line, words: &[u32]) -> Result<(), NoMemory>
     ensures { OnOk result (line.new ≡ line.old ++ inner_words words.now) }
 {
@@ -64,7 +65,7 @@ fn push_words(line: &mut Line, words: &[u32]) -> Result<(), NoMemory>
     }
 }
 
-/// Adds words, each behind a comma.
+/// Appends words, each after a comma.
 fn push_more_words(line: &mut Line, words: &[u32]) -> Result<(), NoMemory>
     ensures { OnOk result (line.new ≡ line.old ++ comma_words words.now) }
 {
@@ -74,7 +75,7 @@ fn push_more_words(line: &mut Line, words: &[u32]) -> Result<(), NoMemory>
     Ok(())
 }
 
-/// Adds the line that counts the states, the outcomes, and those of each status.
+/// Appends the line that counts the states, the outcomes, and those of each status.
 pub fn push_last(line: &mut Line, found: &Explored) -> Result<(), NoMemory>
     ensures { OnOk result (line.new ≡ line.old
         ++ explored_line found.now.is_cut found.now.states (map numbers_in_row found.now.rows)) }
@@ -84,7 +85,7 @@ pub fn push_last(line: &mut Line, found: &Explored) -> Result<(), NoMemory>
     push_last_end(line, found.rows.as_slice())
 }
 
-/// Adds the rest of the line, from the outcomes on.
+/// Appends the rest of the line, from the outcomes on.
 fn push_last_end(line: &mut Line, rows: &[OutcomeRow]) -> Result<(), NoMemory>
     ensures { OnOk result (line.new ≡ line.old ++ last_end (map numbers_in_row rows.now)) }
 {
@@ -94,7 +95,7 @@ fn push_last_end(line: &mut Line, rows: &[OutcomeRow]) -> Result<(), NoMemory>
     line.push("\n")
 }
 
-/// Adds a text, and how many rows have a status.
+/// Appends a text and the number of rows with a status.
 fn push_count(
     line: &mut Line,
     text: &str,
@@ -102,12 +103,13 @@ fn push_count(
     rows: &[OutcomeRow],
 ) -> Result<(), NoMemory>
     ensures { OnOk result (line.new ≡ line.old
-        ++ with_number text.now (rows_of_status (status_number status) (map numbers_in_row rows.now))) }
+        ++ with_number text.now
+        (rows_of_status (status_number status) (map numbers_in_row rows.now))) }
 {
     push_number(line, text, count_of(status, rows))
 }
 
-/// How the last line begins, which tells whether every order was followed.
+/// The beginning of the last line, which says whether every order was followed.
 fn headline(is_cut: bool) -> &'static str
     ensures { result.now ≡ (if is_cut then codes "explored front " else codes "explored ") }
 {

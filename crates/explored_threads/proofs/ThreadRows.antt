@@ -1,4 +1,4 @@
--- A run by threads is a scheduled run, so that its outcome is a row.
+-- A run by threads is a scheduled run, so its outcome is a row.
 use Rattle.std.proofs.Common.{◌≡◌, ℕ, false, None, List, is_some, refl, sym, ap, ◌∙◌, subst}
 use Rattle.std.proofs.lemmas.List.Elements.{All-contains}
 use Rattle.std.specs.List.{list_any}
@@ -16,7 +16,7 @@ use Rattle.order_laws.proofs.OneRun.{threaded_listed}
 use Rattle.order_laws.specs.Listed.{IsListedRun}
 use Rattle.report_defs.specs.ReportText.{has_break}
 use Rattle.run_defs.specs.Simulation.{answer_table, journals_of}
-use Rattle.run_ends.specs.Journals.{AreRuns}
+use Rattle.run_results.specs.Journals.{AreRuns}
 use Rattle.std.proofs.Common.{length}
 use Rattle.threaded_run.specs.Threaded.{IsThreaded}
 

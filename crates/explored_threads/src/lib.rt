@@ -9,14 +9,15 @@ ghost use Rattle.nook_data.specs.declared.calls.Answer.{Answer};
 ghost use Rattle.nook_data.specs.declared.scenario.Scenario.{Scenario};
 ghost use Rattle.nook_data.specs.declared.steps.Event.{Event};
 ghost use Rattle.report_defs.specs.ReportText.{has_break};
-ghost use Rattle.run_ends.specs.Journals.{AreRuns};
+ghost use Rattle.run_results.specs.Journals.{AreRuns};
 ghost use Rattle.std.specs.Prelude.{false, ◌≡◌, List, None, ℕ};
 ghost use Rattle.threaded_run.specs.Threaded.{IsThreaded};
 
-/// A run by threads has an outcome that is a row: threads find no outcome that no order of steps has.
+/// The outcome of a run by threads is a row: threads have no outcome that no order of steps has.
 pub fn the_outcome_of_a_run_by_threads_is_a_row()
     ensures { (scenario : Scenario) (firsts : List Path) (journals : List (List Event))
-        (answers : List (List (ℕ × Answer))) → AreOutcomes scenario None firsts → IsValidScenario scenario
+        (answers : List (List (ℕ × Answer))) → AreOutcomes scenario None firsts
+        → IsValidScenario scenario
         → AreRuns scenario.parts journals → IsThreaded scenario journals answers
         → HasOutcome firsts (outcome_by scenario.parts journals answers) }
 {}

@@ -9,11 +9,11 @@ use Rattle.campaign_rows.specs.Shown.{IsShown, Shows}
 use Rattle.campaign_rows.specs.declared.shown.Shown.{Shown}
 use Rattle.guarded_run.specs.declared.guarded.Guarded.{Guarded}
 use Rattle.campaign_defs.specs.Members.{IsBaseRun, IsFreeRun, IsGuardedRunOf, Ran, alone, every_of, every_under, members, members_of}
-use Rattle.fault_campaign.specs.Bases.{ArePlacesOf, IsBaseOf}
+use Rattle.fault_campaign.specs.Bases.{ArePointsOf, IsBaseOf}
 use Rattle.fault_campaign.specs.Outcomes.{IsOutcomeOf, scenario_run, trap_count}
 use Rattle.fault_campaign.specs.declared.outcome.Outcome.{Outcome}
-use Rattle.fault_places.specs.Places.{faults_at}
-use Rattle.fault_places.specs.declared.places.BurstPlaces.{BurstPlaces}
+use Rattle.fault_points.specs.Points.{faults_at}
+use Rattle.fault_points.specs.declared.points.BurstPoints.{BurstPoints}
 use Rattle.front_laws.proofs.GuardedParts.{guarded_part}
 use Rattle.front_laws.proofs.GuardedRuns.{AreOf, begins_of}
 use Rattle.front_laws.specs.GuardedParts.{IsGuardedPart}
@@ -29,13 +29,13 @@ use Rattle.nook_data.specs.declared.scenario.PartSpec.{PartSpec}
 use Rattle.nook_data.specs.declared.scenario.Scenario.{Scenario}
 use Rattle.nook_data.specs.declared.steps.Event.{Event}
 use Rattle.part_defs.specs.Runs.{IsRun}
-use Rattle.part_laws.proofs.Places.{get_map}
+use Rattle.part_laws.proofs.Indices.{get_map}
 use Rattle.plan_defs.specs.Plans.{IsValidPlan}
 use Rattle.plan_defs.specs.declared.plan.Plan.{Plan}
 use Rattle.plan_defs.specs.declared.plan.Strikes.{Strikes}
 use Rattle.plan_defs.specs.declared.plan.Strikes.TheVariants as strikes
 use Rattle.run_defs.specs.Simulation.{RunningPart, Simulation, begins, journal_of, journals_of}
-use Rattle.run_ends.specs.Journals.{AreRuns, events_in}
+use Rattle.run_results.specs.Journals.{AreRuns, events_in}
 
 -- ---- lists
 
@@ -57,7 +57,7 @@ as_many_runs [] (j ∷ journals) are = absurd are
 as_many_runs (s ∷ specs) [] are = absurd are
 as_many_runs (s ∷ specs) (j ∷ journals) are = ap suc (as_many_runs specs journals are.1)
 
--- the part whose journal stands at a place
+-- the part with the journal at an index
 record IsSeatAt (parts : List RunningPart) (i : ℕ) (journal : List Event) : Type 0 where
   seat : RunningPart
   at : slice_get parts i ≡ Some seat
@@ -70,33 +70,33 @@ seat_at (seat ∷ parts) zero journal h = record { seat = seat; at = refl; journ
 seat_at (seat ∷ parts) (suc i) journal h =
     let s = seat_at parts i journal h in record { seat = s.seat; at = s.at; journal_is = s.journal_is }
 
--- ---- the places
+-- ---- the positions
 
--- what is told of the places of a journal
-abbrev pub ForFree : PartSpec → List Event → List Fault → Result (List BurstPlaces) NoMemory → Type 0
+-- what holds of the positions in a journal
+abbrev pub ForFree : PartSpec → List Event → List Fault → Result (List BurstPoints) NoMemory → Type 0
 ForFree spec journal traps r = IsRun spec journal → traps ≡ [] → (kinds : List FaultKind)
-    → IfOk r (λ places. faults_at kinds places ≡ every_fault kinds spec journal)
+    → IfOk r (λ points. faults_at kinds points ≡ every_fault kinds spec journal)
 
-abbrev pub ForGuarded : PartSpec → List Event → List Fault → Result (List BurstPlaces) NoMemory → Type 0
+abbrev pub ForGuarded : PartSpec → List Event → List Fault → Result (List BurstPoints) NoMemory → Type 0
 ForGuarded spec journal traps r = IsGuardedRun spec journal → traps ≡ traps_of spec journal → (kinds : List FaultKind)
-    → IfOk r (λ places. faults_at kinds places ≡ every_fault_guarded kinds spec journal)
+    → IfOk r (λ points. faults_at kinds points ≡ every_fault_guarded kinds spec journal)
 
--- the same of a part's run in a simulation
+-- the same for a part's run in a simulation
 every_at : (guard : Bool) (kinds : List FaultKind) (parts : List PartSpec) (seats : List RunningPart) (i : ℕ) (spec : PartSpec) (seat : RunningPart)
     (journal : List Event) → slice_get parts i ≡ Some spec → slice_get seats i ≡ Some seat → journal_of seat ≡ journal
     → every_under guard kinds spec journal ≡ every_of guard kinds (slice_get parts i) (slice_get seats i)
 every_at guard kinds parts seats i spec seat journal hs ht e = rw (hs, ht, ← e) refl
 
-module _ (plan : Plan) (outcome : Outcome) (spec : PartSpec) (journal : List Event) (traps : List Fault) (places : List BurstPlaces)
+module _ (plan : Plan) (outcome : Outcome) (spec : PartSpec) (journal : List Event) (traps : List Fault) (points : List BurstPoints)
     (there : slice_get plan.base.parts plan.part ≡ Some spec)
     (at : slice_get (map events_in outcome.report.run.journals) plan.part ≡ Some journal)
     (traps_are : traps ≡ drop (length spec.faults) (own_faults (slice_get (scenario_run outcome.guarded plan.base).parts plan.part)))
-    (free : IsRun spec journal → traps ≡ [] → (kinds : List FaultKind) → faults_at kinds places ≡ every_fault kinds spec journal)
+    (free : IsRun spec journal → traps ≡ [] → (kinds : List FaultKind) → faults_at kinds points ≡ every_fault kinds spec journal)
     (guarded : IsGuardedRun spec journal → traps ≡ traps_of spec journal → (kinds : List FaultKind)
-    → faults_at kinds places ≡ every_fault_guarded kinds spec journal) where
-  free_places : (o : IsOutcomeOf false plan.base outcome) (kinds : List FaultKind)
-      → faults_at kinds places ≡ every_of false kinds (slice_get plan.base.parts plan.part) (slice_get o.ran.simulation.parts plan.part)
-  free_places o kinds =
+    → faults_at kinds points ≡ every_fault_guarded kinds spec journal) where
+  free_points : (o : IsOutcomeOf false plan.base outcome) (kinds : List FaultKind)
+      → faults_at kinds points ≡ every_of false kinds (slice_get plan.base.parts plan.part) (slice_get o.ran.simulation.parts plan.part)
+  free_points o kinds =
       let same : scenario_run outcome.guarded plan.base ≡ plan.base = sym o.shows.scenario_is ∙ o.is_run.same in
       let s = seat_at o.ran.simulation.parts plan.part journal
       (ap (λ (js : List (List Event)). slice_get js plan.part) (sym o.shows.journals) ∙ at) in
@@ -109,9 +109,9 @@ module _ (plan : Plan) (outcome : Outcome) (spec : PartSpec) (journal : List Eve
       free run none kinds
       ∙ every_at false kinds plan.base.parts o.ran.simulation.parts plan.part spec s.seat journal there s.at s.journal_is
 
-  guarded_places : (o : IsOutcomeOf true plan.base outcome) (kinds : List FaultKind)
-      → faults_at kinds places ≡ every_of true kinds (slice_get plan.base.parts plan.part) (slice_get o.ran.simulation.parts plan.part)
-  guarded_places o kinds =
+  guarded_points : (o : IsOutcomeOf true plan.base outcome) (kinds : List FaultKind)
+      → faults_at kinds points ≡ every_of true kinds (slice_get plan.base.parts plan.part) (slice_get o.ran.simulation.parts plan.part)
+  guarded_points o kinds =
       let run_is : IsGuardedRunOf plan.base o.ran = o.is_run in
       let s = seat_at o.ran.simulation.parts plan.part journal
       (ap (λ (js : List (List Event)). slice_get js plan.part) (sym o.shows.journals) ∙ at) in
@@ -128,65 +128,65 @@ module _ (plan : Plan) (outcome : Outcome) (spec : PartSpec) (journal : List Eve
       guarded (subst (IsGuardedRun spec) s.journal_is part.run) (trapped ∙ ap (traps_of spec) s.journal_is) kinds
       ∙ every_at true kinds plan.base.parts o.ran.simulation.parts plan.part spec s.seat journal there s.at s.journal_is
 
-  places_by : (guard : Bool) → plan.guard ≡ guard → IsOutcomeOf guard plan.base outcome → ArePlacesOf plan places
-  places_by false e o = record {
+  positions_by : (guard : Bool) → plan.guard ≡ guard → IsOutcomeOf guard plan.base outcome → ArePointsOf plan points
+  positions_by false e o = record {
     ran = o.ran;
     is_base = rw e o.is_run;
-    places_are = λ kinds. rw e (free_places o kinds);
+    numbers_are = λ kinds. rw e (free_points o kinds);
   }
-  places_by true e o = record {
+  positions_by true e o = record {
     ran = o.ran;
     is_base = rw e o.is_run;
-    places_are = λ kinds. rw e (guarded_places o kinds);
+    numbers_are = λ kinds. rw e (guarded_points o kinds);
   }
 
-pub places_found : (r : Result (List BurstPlaces) NoMemory) (plan : Plan) (outcome : Outcome) (spec : PartSpec) (journal : List Event) (traps : List Fault)
+pub positions_found : (r : Result (List BurstPoints) NoMemory) (plan : Plan) (outcome : Outcome) (spec : PartSpec) (journal : List Event) (traps : List Fault)
     → IsOutcomeOf plan.guard plan.base outcome → slice_get plan.base.parts plan.part ≡ Some spec
     → slice_get (map events_in outcome.report.run.journals) plan.part ≡ Some journal
     → traps ≡ drop (length spec.faults) (own_faults (slice_get (scenario_run outcome.guarded plan.base).parts plan.part))
-    → ForFree spec journal traps r → ForGuarded spec journal traps r → IfOk r (ArePlacesOf plan)
-places_found (Err e) plan outcome spec journal traps o there at are free guarded = tt
-places_found (Ok places) plan outcome spec journal traps o there at are free guarded =
-    places_by plan outcome spec journal traps places there at are free guarded plan.guard refl o
+    → ForFree spec journal traps r → ForGuarded spec journal traps r → IfOk r (ArePointsOf plan)
+positions_found (Err e) plan outcome spec journal traps o there at are free guarded = tt
+positions_found (Ok points) plan outcome spec journal traps o there at are free guarded =
+    positions_by plan outcome spec journal traps points there at are free guarded plan.guard refl o
 
-pub traps_by : (traps faults : List Fault) (n : ℕ) (spec : PartSpec) (parts : List PartSpec) (run : Scenario) (place : ℕ)
-    (found : Option Guarded) (given : Scenario) → traps ≡ drop n faults → n ≡ length spec.faults → faults ≡ own_faults (slice_get parts place)
+pub traps_by : (traps faults : List Fault) (n : ℕ) (spec : PartSpec) (parts : List PartSpec) (run : Scenario) (index : ℕ)
+    (found : Option Guarded) (given : Scenario) → traps ≡ drop n faults → n ≡ length spec.faults → faults ≡ own_faults (slice_get parts index)
     → parts ≡ run.parts → run ≡ scenario_run found given
-    → traps ≡ drop (length spec.faults) (own_faults (slice_get (scenario_run found given).parts place))
-traps_by traps faults n spec parts run place found given a b c d e =
+    → traps ≡ drop (length spec.faults) (own_faults (slice_get (scenario_run found given).parts index))
+traps_by traps faults n spec parts run index found given a b c d e =
     a ∙ ap (λ k. drop k faults) b ∙ ap (drop (length spec.faults)) c
-    ∙ ap (λ (ps : List PartSpec). drop (length spec.faults) (own_faults (slice_get ps place))) d
-    ∙ ap (λ (s : Scenario). drop (length spec.faults) (own_faults (slice_get s.parts place))) e
+    ∙ ap (λ (ps : List PartSpec). drop (length spec.faults) (own_faults (slice_get ps index))) d
+    ∙ ap (λ (s : Scenario). drop (length spec.faults) (own_faults (slice_get s.parts index))) e
 
--- the run of the base, with what is shown of it
-pub base_is : (plan : Plan) (o : Outcome) (scenario : Scenario) (shown : Shown) (row : Row) (places : List BurstPlaces) (traps : ℕ)
+-- the run of the base, with its answers and final states
+pub base_is : (plan : Plan) (o : Outcome) (scenario : Scenario) (shown : Shown) (row : Row) (points : List BurstPoints) (traps : ℕ)
     → IsOutcomeOf plan.guard plan.base o → scenario ≡ scenario_run o.guarded plan.base → traps ≡ trap_count o.guarded
     → ((ran : Ran) → Shows ran scenario o.report → IsShown ran shown)
     → ((own ran : Ran) → IsShown own shown → Shows ran scenario o.report → traps ≡ ran.traps → row ≡ plan_row plan own ran)
-    → ArePlacesOf plan places → IsBaseOf plan (record { shown = shown; row = row; places = places })
-base_is plan o scenario shown row places traps is same many is_shown is_row are =
+    → ArePointsOf plan points → IsBaseOf plan (record { shown = shown; row = row; points = points })
+base_is plan o scenario shown row points traps is same many is_shown is_row are =
     let shows : Shows is.ran scenario o.report = subst (λ (s : Scenario). Shows is.ran s o.report) (sym same) is.shows in
-    let beside : IsShown is.ran shown = is_shown is.ran shows in
+    let is_seen : IsShown is.ran shown = is_shown is.ran shows in
     let one : are.ran ≡ is.ran = run_under_once plan.guard plan.base are.ran is.ran are.is_base is.is_run in
     record {
       ran = is.ran;
       is_base = is.is_run;
-      shown = beside;
-      row = is_row is.ran is.ran beside shows (many ∙ is.traps);
-      places = λ kinds. are.places_are kinds
+      shown = is_seen;
+      row = is_row is.ran is.ran is_seen shows (many ∙ is.traps);
+      points = λ kinds. are.numbers_are kinds
           ∙ ap (λ (ran : Ran). every_of plan.guard kinds (slice_get plan.base.parts plan.part) (slice_get ran.simulation.parts plan.part)) one;
     }
 
--- every fault at the places is a member
-pub every_members : (plan : Plan) (places : List BurstPlaces) (kinds : List FaultKind) (own : Ran) → ArePlacesOf plan places
-    → IsBaseRun plan own → plan.strikes ≡ strikes.Every kinds → map alone (faults_at kinds places) ≡ members plan own
-every_members plan places kinds own are is e =
+-- every fault at the positions is a member
+pub every_members : (plan : Plan) (points : List BurstPoints) (kinds : List FaultKind) (own : Ran) → ArePointsOf plan points
+    → IsBaseRun plan own → plan.strikes ≡ strikes.Every kinds → map alone (faults_at kinds points) ≡ members plan own
+every_members plan points kinds own are is e =
     let one : are.ran ≡ own = run_under_once plan.guard plan.base are.ran own are.is_base is in
-    ap (map alone) (are.places_are kinds
+    ap (map alone) (are.numbers_are kinds
     ∙ ap (λ (ran : Ran). every_of plan.guard kinds (slice_get plan.base.parts plan.part) (slice_get ran.simulation.parts plan.part)) one)
     ∙ ap (λ (s : Strikes). members_of plan s own) (sym e)
 
--- ---- there is a journal for the struck part
+-- ---- the struck part has a journal
 
 counted : (parts : List RunningPart) (specs : List PartSpec) → AreOf parts specs → length (map spec_of parts) ≡ length specs
 unfolding AreOf

@@ -1,13 +1,13 @@
--- Every fault of some kinds in a burst.
+-- Every fault of the given kinds in a burst.
 use Rattle.std.proofs.Common.{◌≡◌, ◌∙◌, refl, sym, ap, ℕ, zero, suc, ◌+◌, ◌-◌, ◌<◌, ◌≤◌, min, List, [], ◌∷◌, ◌++◌, map, arith, append_assoc}
 use Rattle.campaign_defs.specs.Members.{alone}
-use Rattle.fault_places.specs.Places.{faults_at}
-use Rattle.fault_places.specs.declared.places.BurstPlaces.{BurstPlaces}
+use Rattle.fault_points.specs.Points.{faults_at}
+use Rattle.fault_points.specs.declared.points.BurstPoints.{BurstPoints}
 use Rattle.guard_defs.specs.Every.{faults_in, put_at}
 use Rattle.nook_data.specs.declared.scenario.Fault.{Fault}
 use Rattle.nook_data.specs.declared.scenario.FaultKind.{FaultKind}
 
--- the first turn that is left, and the others
+-- the first remaining instruction, and the others
 pub first_turn : (kinds : List FaultKind) (burst after turn turns : ℕ) → turn < turns
     → faults_in kinds burst (after + turn) (turns - turn)
     ≡ map (put_at burst (after + turn)) kinds ++ faults_in kinds burst (after + (turn + 1)) (turns - (turn + 1))
@@ -18,7 +18,7 @@ first_turn kinds burst after turn turns less =
     ap (faults_in kinds burst (after + turn)) one_more
     ∙ ap (λ n. map (put_at burst (after + turn)) kinds ++ faults_in kinds burst n (turns - (turn + 1))) next
 
--- the first turns and the others
+-- the first instructions, and the others
 turns_apart : (kinds : List FaultKind) (burst after first more : ℕ)
     → faults_in kinds burst after (first + more) ≡ faults_in kinds burst after first ++ faults_in kinds burst (after + first) more
 unfolding faults_in
@@ -52,10 +52,10 @@ burst_apart kinds burst after first more turns e =
     ∙ lists_apart (faults_in kinds burst after (first + more)) (faults_in kinds burst after first) (faults_in kinds burst (after + first) more)
     (turns_apart kinds burst after first more)
 
-pub bursts_apart : (kinds : List FaultKind) (bursts : List BurstPlaces) (first : BurstPlaces) (more : List BurstPlaces) → bursts ≡ first ∷ more
-    → map alone (faults_at kinds bursts) ≡ map alone (faults_in kinds first.burst 0 first.places) ++ map alone (faults_at kinds more)
+pub bursts_apart : (kinds : List FaultKind) (bursts : List BurstPoints) (first : BurstPoints) (more : List BurstPoints) → bursts ≡ first ∷ more
+    → map alone (faults_at kinds bursts) ≡ map alone (faults_in kinds first.burst 0 first.points) ++ map alone (faults_at kinds more)
 bursts_apart kinds bursts first more e =
-    ap (λ b. map alone (faults_at kinds b)) e ∙ map_apart (faults_in kinds first.burst 0 first.places) (faults_at kinds more)
+    ap (λ b. map alone (faults_at kinds b)) e ∙ map_apart (faults_in kinds first.burst 0 first.points) (faults_at kinds more)
 
 pub no_turns : (kinds : List FaultKind) (burst after turns : ℕ) → turns ≡ 0 → map alone (faults_in kinds burst after turns) ≡ []
 unfolding faults_in
@@ -64,7 +64,7 @@ no_turns kinds burst after turns e = ap (λ n. map alone (faults_in kinds burst 
 pub turns_in_two : (count most some : ℕ) → some ≡ min count most → count ≡ some + (count - some)
 turns_in_two count most some e = let low : min count most ≤ count = omega arith in omega (arith, e, low)
 
-pub bursts_as : (kinds : List FaultKind) (bursts : List BurstPlaces) (first : BurstPlaces) (more : List BurstPlaces) (b a n : ℕ)
-    → bursts ≡ first ∷ more → b ≡ first.burst → a ≡ 0 → n ≡ first.places
+pub bursts_as : (kinds : List FaultKind) (bursts : List BurstPoints) (first : BurstPoints) (more : List BurstPoints) (b a n : ℕ)
+    → bursts ≡ first ∷ more → b ≡ first.burst → a ≡ 0 → n ≡ first.points
     → map alone (faults_at kinds bursts) ≡ map alone (faults_in kinds b a n) ++ map alone (faults_at kinds more)
 bursts_as kinds bursts first more b a n e eb ea en = rw (eb, ea, en) (bursts_apart kinds bursts first more e)

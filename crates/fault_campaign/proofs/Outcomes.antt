@@ -1,4 +1,4 @@
--- What a campaign's run of a scenario leaves.
+-- The result of a campaign's run of a scenario.
 use Rattle.std.proofs.Common.{◌≡◌, ◌∙◌, refl, sym, subst, ap, ℕ, zero, suc, ◌==◌, Bool, true, false, ◌&&◌, ◌||◌, if◌then◌else◌, List, [], ◌∷◌, map, length, Option, Some, None, is_some}
 use Rattle.std.specs.Prelude.{Result, Ok, Err, IfOk, slice_get}
 use Rattle.campaign_defs.specs.Members.{CanRunUnder, IsRunUnder, Ran}
@@ -6,7 +6,7 @@ use Rattle.campaign_defs.specs.Rows.{plan_row}
 use Rattle.campaign_defs.specs.Types.{Row}
 use Rattle.campaign_rows.specs.Shown.{IsShown, Shows}
 use Rattle.campaign_rows.specs.declared.shown.Shown.{Shown}
-use Rattle.fault_campaign.specs.Outcomes.{IsOutcomeOf, IsRowBeside, IsScheduledReport, scenario_run, trap_count}
+use Rattle.fault_campaign.specs.Outcomes.{IsOutcomeOf, IsRowOver, IsScheduledReport, scenario_run, trap_count}
 use Rattle.fault_campaign.specs.declared.outcome.Outcome.{Outcome}
 use Rattle.front_laws.proofs.FirstStops.{specs_of_run}
 use Rattle.front_laws.proofs.StopChain.{guarded_by_stops}
@@ -23,12 +23,12 @@ use Rattle.nook_io.specs.Listening.{Listening}
 use Rattle.plan_defs.specs.declared.plan.Plan.{Plan}
 use Rattle.promise_defs.specs.Contract.{first_break}
 use Rattle.report_defs.specs.ReportText.{has_break, has_given_up, status_of}
-use Rattle.report_text.specs.Whole.{IsReport}
-use Rattle.report_text.specs.declared.report.Run.{Run}
-use Rattle.report_text.specs.declared.whole_report.Report.{Report}
+use Rattle.run_results.specs.Reports.{IsReport}
+use Rattle.run_results.specs.declared.run.Run.{Run}
+use Rattle.run_results.specs.declared.report.Report.{Report}
 use Rattle.request_taps.specs.declared.tap.Tap.{Tap}
 use Rattle.run_defs.specs.Simulation.{IsScheduledRun, RunningPart, Simulation, answer_table, journal_of, journals_of}
-use Rattle.run_ends.specs.Journals.{AreRuns, events_in}
+use Rattle.run_results.specs.Journals.{AreRuns, events_in}
 use Rattle.sim_run.proofs.Ending.{scheduled_once}
 use Rattle.sim_run.specs.Whole.{IsSimulated}
 
@@ -47,7 +47,7 @@ scheduled_report (Ok report) scenario run old new simulated runs same whole = re
   runs = subst (λ (x : Run). AreRuns scenario.parts (map events_in x.journals)) (sym same) runs;
 }
 
--- ---- where the status is not 7, no part broke its contract
+-- ---- if the status is not 7, no part broke its contract
 
 either_false : (a b : Bool) → (a || b) ≡ false → (a ≡ false) × (b ≡ false)
 either_false true b h = absurd (cc h)
@@ -58,14 +58,14 @@ none_of None h = refl
 none_of (Some x) h = absurd (cc h)
 
 none_broken : (parts : List RunningPart) → has_break (map spec_of parts) (map journal_of parts) ≡ false
-    → (place : ℕ) (seat : RunningPart) → slice_get parts place ≡ Some seat
+    → (index : ℕ) (seat : RunningPart) → slice_get parts index ≡ Some seat
     → first_break (spec_of seat).class (spec_of seat).blocks seat.run.journal ≡ None
 unfolding has_break
-none_broken [] h place seat at = none_is_some at
+none_broken [] h index seat at = none_is_some at
 none_broken (x ∷ parts) h zero seat at =
     subst (λ (y : RunningPart). first_break (spec_of y).class (spec_of y).blocks y.run.journal ≡ None) (same_inside at)
     (none_of _ (either_false _ _ h).0)
-none_broken (x ∷ parts) h (suc place) seat at = none_broken parts (either_false _ _ h).1 place seat at
+none_broken (x ∷ parts) h (suc index) seat at = none_broken parts (either_false _ _ h).1 index seat at
 
 unbroken_by : (broken gone : Bool) → ((if broken then 7 else if gone then 1 else 0) == 7) ≡ false → broken ≡ false
 unbroken_by true gone h = absurd (cc h)
@@ -149,11 +149,11 @@ guarded_outcome scenario made report g r =
 
 -- ---- the row of a run
 
-pub row_beside : (r : Result Row NoMemory) (plan : Plan) (shown : Shown) (given : Scenario) (outcome : Outcome)
+pub row_over : (r : Result Row NoMemory) (plan : Plan) (shown : Shown) (given : Scenario) (outcome : Outcome)
     → IsOutcomeOf plan.guard given outcome
     → ((own ran : Ran) → IsShown own shown → Shows ran (scenario_run outcome.guarded given) outcome.report
     → trap_count outcome.guarded ≡ ran.traps → IfOk r (λ row. row ≡ plan_row plan own ran))
-    → IfOk r (IsRowBeside plan shown given)
-row_beside (Err e) plan shown given outcome o is = tt
-row_beside (Ok row) plan shown given outcome o is =
+    → IfOk r (IsRowOver plan shown given)
+row_over (Err e) plan shown given outcome o is = tt
+row_over (Ok row) plan shown given outcome o is =
     λ own shows. record { ran = o.ran; is_run = o.is_run; same = is own o.ran shows o.shows o.traps }

@@ -1,4 +1,4 @@
--- A plain campaign is a plan of one fault a member, without a guard.
+-- A plain campaign is a plan of one fault for each member, without a guard.
 use Rattle.std.proofs.Common.{◌≡◌, ◌∙◌, refl, sym, subst, ap, ℕ, ◌+◌, ◌≤◌, List, [], ◌∷◌, map, length, arith, false, true, Option, Some, None}
 use Rattle.std.specs.Prelude.{All, Err, IfOk, Ok, Result, slice_get}
 use Rattle.campaign_defs.specs.Members.{CanRunMember, IsFreeRun, Ran, alone}
@@ -7,9 +7,9 @@ use Rattle.campaign_defs.specs.TableText.{counts_of}
 use Rattle.campaign_defs.specs.Types.{Row}
 use Rattle.campaign_rows.specs.Shown.{IsShown}
 use Rattle.campaign_laws.proofs.MemberRuns.{members_can_run}
-use Rattle.fault_campaign.proofs.Given.{rows_beside}
+use Rattle.fault_campaign.proofs.Given.{rows_over}
 use Rattle.fault_campaign.specs.Bases.{IsBaseOf}
-use Rattle.fault_campaign.specs.Placed.{AreRowsFor}
+use Rattle.fault_campaign.specs.NumberedRows.{AreRowsFor}
 use Rattle.fault_campaign.specs.Plain.{plain_plan}
 use Rattle.fault_campaign.specs.declared.base.Base.{Base}
 use Rattle.nook_data.specs.Members.{IsValidCampaign, faults_at, member, struck, with_struck}
@@ -38,9 +38,9 @@ pub plain_can_run : (campaign : Campaign) (base : Base) → IsValidCampaign camp
     → All (CanRunMember (plain_plan campaign)) (map alone campaign.faults)
 plain_can_run campaign base h b = members_can_run (plain_plan campaign) b.ran (plain_is_valid campaign h) b.is_base
 
-struck_alone : (parts : List PartSpec) (place : ℕ) (f : Fault) (o : Option PartSpec) → with_struck_by parts place (alone f) o ≡ with_struck parts place f o
-struck_alone parts place f None = refl
-struck_alone parts place f (Some part) = refl
+struck_alone : (parts : List PartSpec) (index : ℕ) (f : Fault) (o : Option PartSpec) → with_struck_by parts index (alone f) o ≡ with_struck parts index f o
+struck_alone parts index f None = refl
+struck_alone parts index f (Some part) = refl
 
 member_alone : (campaign : Campaign) (f : Fault) → struck_by campaign.base campaign.part (alone f) ≡ member campaign f
 member_alone campaign f =
@@ -66,15 +66,15 @@ plain_rows campaign own [] (row ∷ rows) are = absurd are
 plain_rows campaign own (f ∷ faults) [] are = absurd are
 plain_rows campaign own (f ∷ faults) (row ∷ rows) are = (plain_row campaign own f row are.0, plain_rows campaign own faults rows are.1)
 
--- what is counted in the rows of a plain campaign's plan is its table
+-- the counts in the rows of a plain campaign's plan are its table
 pub plain_table : (campaign : Campaign) (base : Base) (rows : List Row) (table : List MemberRow) → IsBaseOf (plain_plan campaign) base
     → AreRowsFor (plain_plan campaign) base.shown (map alone campaign.faults) rows → table ≡ counts_of rows → IsTable campaign table
 plain_table campaign base rows table b are e =
     subst (IsTable campaign) (sym e)
     (plain_rows campaign b.ran campaign.faults rows
-    (rows_beside (plain_plan campaign) base.shown b.ran (map alone campaign.faults) rows b.shown are))
+    (rows_over (plain_plan campaign) base.shown b.ran (map alone campaign.faults) rows b.shown are))
 
--- the same of a plan that is the campaign's
+-- the same for a plan that equals the campaign's
 
 pub can_run_as : (campaign : Campaign) (plan : Plan) (base : Base) (lists : List (List Fault)) → IsValidCampaign campaign
     → plan ≡ plain_plan campaign → IsBaseOf plan base → lists ≡ map alone campaign.faults → All (CanRunMember plan) lists

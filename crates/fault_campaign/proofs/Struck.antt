@@ -1,4 +1,4 @@
--- Parts of which one was struck.
+-- Scenarios of which one part was struck.
 use Rattle.std.proofs.Common.{◌≡◌, refl, sym, ap, ◌∙◌, ℕ, List, Option, Some, None, length}
 use Rattle.std.specs.Prelude.{slice_get, slice_set}
 use Rattle.std.proofs.lemmas.List.{length-set, set-set}
@@ -9,11 +9,11 @@ use Rattle.nook_data.specs.declared.scenario.Scenario.{Scenario}
 use Rattle.plan_defs.specs.Plans.{struck_by, with_faults, with_struck_by}
 use Rattle.plan_defs.specs.declared.plan.Plan.{Plan}
 
-struck_is : (parts : List PartSpec) (place : ℕ) (faults : List Fault) (part : PartSpec) → slice_get parts place ≡ Some part
-    → with_struck_by parts place faults (slice_get parts place) ≡ slice_set parts place (with_faults faults part)
-struck_is parts place faults part e = ap (with_struck_by parts place faults) e
+struck_is : (parts : List PartSpec) (index : ℕ) (faults : List Fault) (part : PartSpec) → slice_get parts index ≡ Some part
+    → with_struck_by parts index faults (slice_get parts index) ≡ slice_set parts index (with_faults faults part)
+struck_is parts index faults part e = ap (with_struck_by parts index faults) e
 
--- the struck part of a campaign put into another member's scenario
+-- the struck part of a campaign, put into another member's scenario
 pub struck_member : (plan : Plan) (faults : List Fault) (scenario : Scenario) (part : PartSpec) → IsBaseButStruck plan scenario
     → slice_get plan.base.parts plan.part ≡ Some part
     → record scenario { parts = slice_set scenario.parts plan.part (with_faults faults part) } ≡ struck_by plan.base plan.part faults
@@ -24,15 +24,15 @@ struck_member plan faults scenario part s e =
 pub base_but_struck : (plan : Plan) → IsBaseButStruck plan plan.base
 base_but_struck plan = record { count = refl; others = λ part. refl }
 
-as_many : (parts : List PartSpec) (place : ℕ) (faults : List Fault) (found : Option PartSpec)
-    → length (with_struck_by parts place faults found) ≡ length parts
-as_many parts place faults None = refl
-as_many parts place faults (Some part) = length-set parts place (with_faults faults part)
+as_many : (parts : List PartSpec) (index : ℕ) (faults : List Fault) (found : Option PartSpec)
+    → length (with_struck_by parts index faults found) ≡ length parts
+as_many parts index faults None = refl
+as_many parts index faults (Some part) = length-set parts index (with_faults faults part)
 
-struck_again : (parts : List PartSpec) (place : ℕ) (faults : List Fault) (found : Option PartSpec) (other : PartSpec)
-    → slice_set (with_struck_by parts place faults found) place other ≡ slice_set parts place other
-struck_again parts place faults None other = refl
-struck_again parts place faults (Some part) other = set-set parts place (with_faults faults part) other
+struck_again : (parts : List PartSpec) (index : ℕ) (faults : List Fault) (found : Option PartSpec) (other : PartSpec)
+    → slice_set (with_struck_by parts index faults found) index other ≡ slice_set parts index other
+struck_again parts index faults None other = refl
+struck_again parts index faults (Some part) other = set-set parts index (with_faults faults part) other
 
 pub member_but_struck : (plan : Plan) (faults : List Fault) → IsBaseButStruck plan (struck_by plan.base plan.part faults)
 member_but_struck plan faults =

@@ -1,4 +1,4 @@
--- The rows of a campaign: each valid campaign has them, and has them once.
+-- Each valid campaign has exactly one list of rows.
 use Rattle.std.proofs.Common.{◌≡◌, ◌∙◌, refl, sym, ap, List, [], ◌∷◌, ◌++◌, length}
 use Rattle.std.specs.Prelude.{All}
 use Rattle.std.specs.List.{AllByRecursion, AllZip}
@@ -66,15 +66,15 @@ pub record AreSplit (campaign : Campaign) (front more : List Fault) (rows : List
   pub rest : List MemberRow
   pub whole : rows ≡ first ++ rest
   pub before : AreRows campaign front first
-  pub behind : AreRows campaign more rest
+  pub after : AreRows campaign more rest
 
 pub rows_split : (campaign : Campaign) (front more : List Fault) (rows : List MemberRow) → AreRows campaign (front ++ more) rows
     → AreSplit campaign front more rows
-rows_split campaign [] more rows h = record { first = []; rest = rows; whole = refl; before = tt; behind = h }
+rows_split campaign [] more rows h = record { first = []; rest = rows; whole = refl; before = tt; after = h }
 rows_split campaign (fault ∷ front) more [] h = absurd h
 rows_split campaign (fault ∷ front) more (row ∷ rows) h =
     let s = rows_split campaign front more rows h.1 in
-    record { first = row ∷ s.first; rest = s.rest; whole = ap (λ t. row ∷ t) s.whole; before = (h.0, s.before); behind = s.behind }
+    record { first = row ∷ s.first; rest = s.rest; whole = ap (λ t. row ∷ t) s.whole; before = (h.0, s.before); after = s.after }
 
 pub as_many : (campaign : Campaign) (faults : List Fault) (rows : List MemberRow) → AreRows campaign faults rows → length rows ≡ length faults
 as_many campaign faults rows h = AllZip-long (λ fault row. IsRowOf (member campaign fault) row) faults rows h

@@ -1,6 +1,6 @@
 pub mod Members
 pub mod Outcomes
-pub mod Placed
+pub mod NumberedRows
 pub mod Given
 pub mod Bases
 pub mod Plain

@@ -1,7 +1,7 @@
-//! The run of the base: what the members' runs are compared with, and where more faults strike.
+//! The run of the base: the members' runs are compared with it, and it determines where more faults strike.
 
 ghost use Rattle.std.specs.Prelude.{◌≡◌, IfOk, drop};
-ghost use Rattle.fault_campaign.specs.Bases.{IsBaseOf, ArePlacesOf};
+ghost use Rattle.fault_campaign.specs.Bases.{IsBaseOf, ArePointsOf};
 ghost use Rattle.fault_campaign.specs.Outcomes.{IsOutcomeOf};
 ghost use Rattle.nook_data.specs.Members.{faults_at};
 ghost use Rattle.plan_defs.specs.Plans.{IsValidPlan};
@@ -9,7 +9,7 @@ ghost use Rattle.plan_defs.specs.Plans.{IsValidPlan};
 use crate::outcome::{Outcome, run_under};
 use campaign_defs::row::Row;
 use campaign_rows::{Shown, plan_row, shown_of};
-use fault_places::{BurstPlaces, places_of};
+use fault_points::{BurstPoints, points_of};
 use nook_data::lists::Items;
 use nook_data::memory::NoMemory;
 use nook_data::scenario::{Fault, PartSpec};
@@ -17,13 +17,13 @@ use part_core::LeftRooms;
 use plan_defs::plan::Plan;
 use std::alloc::Global;
 
-/// The base's run: what it showed, its row, and the bursts of the struck part with the turns before which one more fault
-/// strikes there.
+/// The base's run: its answers and final states, its row, and the bursts of the struck part with the instructions
+/// before which one more fault strikes.
 #[derive(Drop)]
 pub struct Base {
     pub shown: Shown,
     pub row: Row,
-    pub places: Items<BurstPlaces>,
+    pub points: Items<BurstPoints>,
 }
 
 /// Runs the base of a campaign.
@@ -41,44 +41,44 @@ pub fn base_of(alloc: Global, plan: &Plan) -> Result<Base, NoMemory>
     let shown = shown_of(alloc, scenario, &outcome.report)?;
     let traps = outcome.trap_count();
     let row = plan_row(alloc, plan, &shown, scenario, &outcome.report, traps)?;
-    let places = struck_places(alloc, plan, &outcome)?;
-    Ok(Base { shown, row, places })
+    let points = struck_points(alloc, plan, &outcome)?;
+    Ok(Base { shown, row, points })
 }
 
 /// Where one more fault strikes in the struck part's run.
-fn struck_places(
+fn struck_points(
     alloc: Global,
     plan: &Plan,
     outcome: &Outcome,
-) -> Result<Items<BurstPlaces>, NoMemory>
+) -> Result<Items<BurstPoints>, NoMemory>
     requires valid { IsValidPlan plan.now }
     requires outcome { IsOutcomeOf plan.now.guard plan.now.base outcome.now }
-    ensures { IfOk result (ArePlacesOf plan.now) }
+    ensures { IfOk result (ArePointsOf plan.now) }
 {
-    let place = plan.part as usize;
-    let spec = plan.base.parts.get(place);
-    let journal = outcome.report.run.journals.get(place);
+    let index = plan.part as usize;
+    let spec = plan.base.parts.get(index);
+    let journal = outcome.report.run.journals.get(index);
     let run = outcome.scenario(&plan.base).parts.as_slice();
-    let traps = from(faults_at(run, place), spec.faults.len());
-    places_of(alloc, spec, journal.as_slice(), traps)
+    let traps = from(faults_at(run, index), spec.faults.len());
+    points_of(alloc, spec, journal.as_slice(), traps)
 }
 
-/// The faults of the part at a place.
-fn faults_at(parts: &[PartSpec], place: usize) -> &[Fault]
-    ensures { result.now ≡ faults_at parts.now place }
+/// The faults of part `index`.
+fn faults_at(parts: &[PartSpec], index: usize) -> &[Fault]
+    ensures { result.now ≡ faults_at parts.now index }
 {
-    match parts.get(place) {
+    match parts.get(index) {
         Some(part) => part.faults.as_slice(),
         None => &[],
     }
 }
 
-/// The faults from a place on.
-fn from(faults: &[Fault], place: usize) -> &[Fault]
-    ensures { result.now ≡ drop place faults.now }
+/// The faults from an index on.
+fn from(faults: &[Fault], index: usize) -> &[Fault]
+    ensures { result.now ≡ drop index faults.now }
 {
-    if place < faults.len() {
-        &faults[place..]
+    if index < faults.len() {
+        &faults[index..]
     } else {
         &[]
     }

@@ -1,4 +1,4 @@
-//! The members of every fault: each kind of fault, in each burst, before each turn at which it strikes.
+//! The members of every fault: each kind of fault, in each burst, before each instruction at which it strikes.
 
 ghost use Rattle.std.specs.Prelude.{◌≡◌, ◌+◌, ◌*◌, ◌^◌, ◌<◌, ◌≤◌, ◌++◌, IfOk, OnOk, map};
 ghost use Rattle.campaign_defs.specs.Members.{alone};
@@ -9,7 +9,7 @@ use nook_data::memory::NoMemory;
 use nook_data::scenario::{Fault, FaultKind, Faults};
 use std::alloc::Global;
 
-/// Each fault as the faults of a member.
+/// Each fault as the only fault of a member.
 pub fn each_alone(alloc: Global, faults: &[Fault]) -> Result<Items<Faults>, NoMemory>
     ensures { IfOk result (λ members. members ≡ map alone faults.now) }
 {
@@ -20,7 +20,7 @@ pub fn each_alone(alloc: Global, faults: &[Fault]) -> Result<Items<Faults>, NoMe
     Ok(members)
 }
 
-/// A fault alone.
+/// A list of one fault.
 fn alone(alloc: Global, fault: Fault) -> Result<Faults, NoMemory>
     ensures { IfOk result (λ faults. faults ≡ alone fault) }
 {
@@ -29,7 +29,7 @@ fn alone(alloc: Global, fault: Fault) -> Result<Faults, NoMemory>
     Ok(faults)
 }
 
-/// The faults of some kinds in a burst, before each of some turns, the first of which comes after some.
+/// The faults of the given kinds in a burst, before each of `turns` instructions after the first `after`.
 #[tactic(auto, unfolding(guard_defs::specs::Every::faults_in))]
 pub fn faults_in(
     alloc: Global,
@@ -48,7 +48,7 @@ pub fn faults_in(
     Ok(faults)
 }
 
-/// Adds a fault of each kind, in a burst, after some turns.
+/// Appends a fault of each kind, in a burst, after the first `after` instructions.
 fn push_kinds(
     faults: &mut Faults,
     kinds: &[FaultKind],

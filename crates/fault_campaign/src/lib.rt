@@ -1,6 +1,6 @@
-//! Campaigns: a scenario is run once for each member, with that member's faults, and a table tells what became of each run.
+//! Campaigns: a scenario is run once for each member, with that member's faults, and a table has a row for each run.
 //!
-//! The members run side by side, and each row stands at its member's place: the table is that of one thread.
+//! The members run concurrently, and the rows are in the order of the members: the table is as with one thread.
 #![tactic(auto)]
 
 mod base;

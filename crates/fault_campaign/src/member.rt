@@ -10,8 +10,8 @@ use nook_data::scenario::{Fault, Faults, PartSpec, Scenario};
 use plan_defs::plan::Plan;
 use std::alloc::Global;
 
-/// Makes the scenario that of the member with some faults, which come after those that the struck part has in the base.
-/// It was the base or another member's scenario: these differ in the struck part alone, so no other part is copied.
+/// Turns the scenario into that of the member with these faults, which follow those of the struck part in the base.
+/// Before, it was the base or another member's scenario: only the struck part differs, so no other part is copied.
 #[tactic(auto, using(crate::proofs::Struck::struck_member))]
 pub fn strike(
     alloc: Global,
@@ -24,13 +24,13 @@ pub fn strike(
     ensures ok { OnOk result (scenario.new ≡ struck_by plan.now.base plan.now.part faults.now) }
     ensures err { OnErr result (scenario.new ≡ scenario.old) }
 {
-    let place = plan.part as usize;
-    let struck = with_faults(alloc, plan.base.parts.get(place), faults)?;
-    scenario.parts.set(place, struck);
+    let index = plan.part as usize;
+    let struck = with_faults(alloc, plan.base.parts.get(index), faults)?;
+    scenario.parts.set(index, struck);
     Ok(())
 }
 
-/// A part with some faults after its own.
+/// A part with more faults after its own.
 fn with_faults(alloc: Global, part: &PartSpec, faults: &[Fault]) -> Result<PartSpec, NoMemory>
     ensures { IfOk result (λ struck. struck ≡ with_faults faults.now part.now) }
 {
@@ -39,7 +39,7 @@ fn with_faults(alloc: Global, part: &PartSpec, faults: &[Fault]) -> Result<PartS
     Ok(struck)
 }
 
-/// Adds some faults.
+/// Appends faults.
 fn push_all(list: &mut Faults, faults: &[Fault]) -> Result<(), NoMemory>
     ensures { OnOk result (list.new ≡ list.old ++ faults.now) }
 {

@@ -1,4 +1,4 @@
-//! The run that a campaign makes of a scenario: with a guard the guarded one.
+//! The run that a campaign makes of a scenario, which is guarded if the campaign has a guard.
 
 ghost use Rattle.std.specs.Prelude.{◌≡◌, true, IfOk};
 ghost use Rattle.campaign_defs.specs.Members.{CanRunUnder};
@@ -9,8 +9,8 @@ use guarded_run::{Guarded, guard_scenario};
 use nook_data::memory::NoMemory;
 use nook_data::scenario::Scenario;
 use part_core::LeftRooms;
-use report_text::{Report, report_of};
 use request_taps::TapBus;
+use run_results::{Report, report_of};
 use sim_run::simulate_over;
 use std::alloc::Global;
 
@@ -35,7 +35,7 @@ impl Outcome {
         }
     }
 
-    /// How many traps the guard needed.
+    /// The number of traps that the guard needed.
     pub fn trap_count(&self) -> u64
         ensures { result ≡ trap_count self.now.guarded }
     {
@@ -46,9 +46,9 @@ impl Outcome {
     }
 }
 
-/// Runs a scenario as a campaign does. With a guard it is run without it first, since most members break nothing, and
-/// guarded only after a run that broke a contract. The parts take up the memory for acts that earlier runs left, and leave
-/// the same.
+/// Runs a scenario as a campaign does. A campaign with a guard first runs it without the guard, since most members
+/// break nothing, and guards it only after a run that broke a contract. The parts reuse the memory for acts that
+/// earlier runs left, and leave theirs.
 ///
 /// # Errors
 ///
@@ -89,7 +89,7 @@ fn run_guarded(
     })
 }
 
-/// The report of a valid scenario's scheduled run, which no listener hears.
+/// The report of a valid scenario's scheduled run, without listeners.
 fn report_run(alloc: Global, scenario: &Scenario, left: &mut LeftRooms) -> Result<Report, NoMemory>
     requires { IsValidScenario scenario.now }
     ensures { IfOk result (IsScheduledReport scenario.now) }

@@ -1,8 +1,8 @@
-//! Rows that are made in any order, put at the places of their members.
+//! Rows that are made in any order, ordered by the indexes of their members.
 
 ghost use Rattle.std.specs.Prelude.{◌≡◌, [], All, IfOk, List, length};
 ghost use Rattle.campaign_rows.specs.declared.shown.Shown.{Shown};
-ghost use Rattle.fault_campaign.specs.Placed.{AreSlots, IsRowOfPlace, IsShare};
+ghost use Rattle.fault_campaign.specs.NumberedRows.{AreSlots, IsRowOfNumber, IsShare};
 ghost use Rattle.nook_data.specs.declared.scenario.Fault.{Fault};
 ghost use Rattle.plan_defs.specs.declared.plan.Plan.{Plan};
 
@@ -11,43 +11,41 @@ use nook_data::lists::Items;
 use nook_data::memory::NoMemory;
 use std::alloc::Global;
 
-/// A member's row with its place.
+/// A member's row with its index.
 #[derive(Clone, Copy, Debug, PartialEq, Eq)]
-pub struct PlacedRow {
-    pub place: usize,
+pub struct NumberedRow {
+    pub index: usize,
     pub row: Row,
 }
 
 /// The rows of the members that a worker ran.
-pub type Share = Result<Items<PlacedRow>, NoMemory>;
+pub type Share = Result<Items<NumberedRow>, NoMemory>;
 
-/// The rows of some shares, each at its place of `count`; `None` at a place that no share has.
-pub fn place_all(
-    alloc: Global,
-    count: usize,
-    shares: &[Share],
-) -> Result<Vec<Option<Row>>, NoMemory>
+/// The rows of all shares, each at its index of `count`; `None` at an index that no share has.
+pub fn put_all(alloc: Global, count: usize, shares: &[Share]) -> Result<Vec<Option<Row>>, NoMemory>
     ensures { (plan : Plan) (shown : Shown) (lists : List (List Fault)) → length lists ≡ count
-        → All (IsShare plan shown lists) shares.now → IfOk result (λ slots. AreSlots plan shown lists slots.items) }
+        → All (IsShare plan shown lists) shares.now
+        → IfOk result (λ slots. AreSlots plan shown lists slots.items) }
 {
     let mut slots = vec![in alloc; None; count]?;
     for share in shares {
         match share {
-            Ok(rows) => place_share(slots.as_mut_slice(), rows.as_slice()),
+            Ok(rows) => put_share(slots.as_mut_slice(), rows.as_slice()),
             Err(_) => return Err(NoMemory),
         }
     }
     Ok(slots)
 }
 
-/// Puts the rows of one share at their places.
-fn place_share(slots: &mut [Option<Row>], rows: &[PlacedRow])
-    ensures { (plan : Plan) (shown : Shown) (lists : List (List Fault)) → All (IsRowOfPlace plan shown lists) rows.now
+/// Stores the rows of one share at their indexes.
+fn put_share(slots: &mut [Option<Row>], rows: &[NumberedRow])
+    ensures { (plan : Plan) (shown : Shown) (lists : List (List Fault))
+        → All (IsRowOfNumber plan shown lists) rows.now
         → AreSlots plan shown lists slots.old → AreSlots plan shown lists slots.new }
 {
-    for placed in rows {
-        if placed.place < slots.len() {
-            slots[placed.place] = Some(placed.row);
+    for numbered in rows {
+        if numbered.index < slots.len() {
+            slots[numbered.index] = Some(numbered.row);
         }
     }
 }

@@ -1,4 +1,4 @@
-//! Plain campaigns: one fault a member, with no guard and no detail.
+//! Plain campaigns: one fault for each member, without guard and detail.
 
 ghost use Rattle.std.specs.Prelude.{◌≡◌, IfOk};
 ghost use Rattle.campaign_defs.specs.TableText.{counts_of};
@@ -17,9 +17,9 @@ use plan_defs::plan::{Plan, Strikes};
 use std::alloc::Global;
 use std::thread::Threads;
 
-/// Runs a campaign: its table, one row for each fault in the faults' order, each of the scheduled run of the base with
-/// that fault after the struck part's own. The members run side by side; the table is that of one thread, whatever the
-/// number of processors.
+/// Runs a campaign and returns its table, which has one row for each fault, in order: that of the scheduled run of the
+/// base with this fault after the struck part's own. The members run concurrently; the table is the same as with one
+/// thread, for any number of processors.
 ///
 /// # Errors
 ///
@@ -39,7 +39,7 @@ pub fn run_campaign<R: Threads + Sync>(
     counts_of(alloc, rows.as_slice())
 }
 
-/// A campaign as a plan.
+/// A plain campaign as a plan.
 fn plain_plan(alloc: Global, campaign: &Campaign) -> Result<Plan, NoMemory>
     ensures { IfOk result (λ plan. plan ≡ plain_plan campaign.now) }
 {
@@ -52,7 +52,7 @@ fn plain_plan(alloc: Global, campaign: &Campaign) -> Result<Plan, NoMemory>
     })
 }
 
-/// What is counted in some rows.
+/// The counts of rows.
 fn counts_of(alloc: Global, rows: &[Row]) -> Result<Table, NoMemory>
     ensures { IfOk result (λ table. table ≡ counts_of rows.now) }
 {

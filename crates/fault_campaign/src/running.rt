@@ -1,15 +1,15 @@
-//! The runs of members, side by side.
+//! Runs members concurrently.
 
 ghost use Rattle.std.specs.Prelude.{All, IfOk};
 ghost use Rattle.campaign_defs.specs.Members.{CanRunMember, CanRunUnder};
 ghost use Rattle.fault_campaign.specs.Members.{IsBaseButStruck};
-ghost use Rattle.fault_campaign.specs.Outcomes.{IsRowBeside};
-ghost use Rattle.fault_campaign.specs.Placed.{AreRowsFor, AreSlots, IsRowFor, IsShare, IsSlotOf};
+ghost use Rattle.fault_campaign.specs.Outcomes.{IsRowOver};
+ghost use Rattle.fault_campaign.specs.NumberedRows.{AreRowsFor, AreSlots, IsRowFor, IsShare, IsSlotOf};
 ghost use Rattle.plan_defs.specs.Plans.{IsValidPlan};
 
 use crate::member::strike;
 use crate::outcome::run_under;
-use crate::placing::{PlacedRow, Share, place_all};
+use crate::placing::{NumberedRow, Share, put_all};
 use campaign_defs::row::{Row, Rows};
 use campaign_rows::{Shown, plan_row};
 use nook_data::lists::{Items, TryCopy};
@@ -22,8 +22,8 @@ use std::alloc::{AllocError, Global};
 use std::sync::atomic::{AtomicUsize, Ordering};
 use std::thread::{Threads, map_indices};
 
-/// Runs some members, each given by its faults: their rows, in the same order. `shown` is what the base's run showed. The
-/// members run side by side; the rows are those of one thread, whatever the number of processors.
+/// Runs members, each given by its faults, and returns their rows in the same order. `shown` is what the base's run
+/// showed. The members run concurrently; the rows are the same as with one thread, for any number of processors.
 ///
 /// # Errors
 ///
@@ -40,13 +40,13 @@ pub fn run_members<R: Threads + Sync>(
     ensures { IfOk result (AreRowsFor plan.now shown.now members.now) }
 {
     let shares = share_members(rt, alloc, plan, shown, members)?;
-    let slots = place_all(alloc, members.len(), shares.as_slice())?;
+    let slots = put_all(alloc, members.len(), shares.as_slice())?;
     let rows = fill_rows(alloc, plan, shown, members, slots.as_slice())?;
     Ok(Items::from_vec(rows))
 }
 
-/// Runs some members by a worker for each processor. Whoever has ended a member takes the next, so that no processor is
-/// idle while members are left.
+/// Runs members with a worker for each processor. A worker that has ended a member takes the next, so no processor is
+/// idle while members remain.
 fn share_members<R: Threads + Sync>(
     rt: &R,
     alloc: Global,
@@ -71,7 +71,7 @@ fn share_members<R: Threads + Sync>(
     )
 }
 
-/// Takes the next member and runs it, until there is none.
+/// Takes the next member and runs it, until none remains.
 fn work(alloc: Global, plan: &Plan, shown: &Shown, members: &[Faults], next: &AtomicUsize) -> Share
     requires valid { IsValidPlan plan.now }
     requires can_run { All (CanRunMember plan.now) members.now }
@@ -81,18 +81,18 @@ fn work(alloc: Global, plan: &Plan, shown: &Shown, members: &[Faults], next: &At
     let mut left = LeftRooms::none(alloc);
     let mut rows = Items::new(alloc);
     for _ in 0..members.len() {
-        let place = next.fetch_add(1, Ordering::Relaxed);
-        if place >= members.len() {
+        let index = next.fetch_add(1, Ordering::Relaxed);
+        if index >= members.len() {
             break;
         }
-        let faults = &members[place];
+        let faults = &members[index];
         let row = run_member(alloc, plan, shown, faults, &mut scenario, &mut left)?;
-        rows.push(PlacedRow { place, row })?;
+        rows.push(NumberedRow { index, row })?;
     }
     Ok(rows)
 }
 
-/// The rows of some members, from the slots that the workers filled.
+/// The rows of the members, from the slots that the workers filled.
 fn fill_rows(
     alloc: Global,
     plan: &Plan,
@@ -106,13 +106,13 @@ fn fill_rows(
     ensures { IfOk result (λ rows. AreRowsFor plan.now shown.now members.now rows.items) }
 {
     let mut rows = Vec::with_capacity(alloc, members.len())?;
-    for place in 0..members.len() {
-        rows.push(fill_row(alloc, plan, shown, &members[place], slots[place])?)?;
+    for index in 0..members.len() {
+        rows.push(fill_row(alloc, plan, shown, &members[index], slots[index])?)?;
     }
     Ok(rows)
 }
 
-/// The row of the member with some faults. It is in the slot; a member that no worker took would be run here.
+/// The row of the member with these faults. It is in the slot; a member that no worker took would be run here.
 fn fill_row(
     alloc: Global,
     plan: &Plan,
@@ -135,7 +135,7 @@ fn fill_row(
     }
 }
 
-/// The row of the member with some faults. The scenario, the base or another member's, becomes that of this one.
+/// The row of the member with these faults. The scenario, which is the base or another member's, becomes this member's.
 fn run_member(
     alloc: Global,
     plan: &Plan,
@@ -163,7 +163,7 @@ fn run_row(
     left: &mut LeftRooms,
 ) -> Result<Row, NoMemory>
     requires { CanRunUnder plan.now.guard scenario.now }
-    ensures { IfOk result (IsRowBeside plan.now shown.now scenario.now) }
+    ensures { IfOk result (IsRowOver plan.now shown.now scenario.now) }
 {
     let outcome = run_under(alloc, plan.guard, scenario, left)?;
     plan_row(

@@ -1,4 +1,4 @@
-//! A campaign that is run and written, batch by batch.
+//! Runs a campaign and writes its table, batch by batch.
 
 ghost use Rattle.std.specs.Prelude.{◌≡◌, ◌+◌, ◌^◌, ◌<◌, All, List, map};
 ghost use Rattle.campaign_defs.specs.Members.{CanRunMember, IsBaseRun, Ran, alone, members, runs_every};
@@ -6,19 +6,20 @@ ghost use Rattle.campaign_defs.specs.Rows.{IsPlanTable};
 ghost use Rattle.campaign_defs.specs.TableText.{base_line, plan_table_text};
 ghost use Rattle.campaign_defs.specs.Types.{Row};
 ghost use Rattle.campaign_rows.specs.Shown.{IsShown};
-ghost use Rattle.fault_campaign.specs.Bases.{ArePlacesOf};
-ghost use Rattle.fault_campaign.specs.Given.{GivesRows, GivesRowsBeside};
-ghost use Rattle.fault_places.specs.Places.{faults_at};
+ghost use Rattle.fault_campaign.specs.Bases.{ArePointsOf};
+ghost use Rattle.fault_campaign.specs.Given.{GivesRows, GivesRowsOver};
+ghost use Rattle.fault_points.specs.Points.{faults_at};
 ghost use Rattle.guard_defs.specs.Every.{faults_in};
 ghost use Rattle.plan_defs.specs.Plans.{IsValidPlan};
+ghost use Rattle.nook_io.specs.Changes.{change};
 ghost use Rattle.report_text.specs.Writing.{Wrote};
 
 use crate::base::base_of;
 use crate::every::{each_alone, faults_in};
 use crate::running::run_members;
 use campaign_defs::row::Row;
-use campaign_rows::{Shown, Tally, write_base_row, write_rows, write_tally};
-use fault_places::BurstPlaces;
+use campaign_rows::{CampaignCounts, Shown, write_base_row, write_counts, write_rows};
+use fault_points::BurstPoints;
 use nook_data::scenario::{Fault, FaultKind, Faults};
 use nook_io::outside::Sink;
 use plan_defs::plan::{Plan, Strikes};
@@ -26,21 +27,21 @@ use report_text::WriteStop;
 use std::alloc::Global;
 use std::thread::Threads;
 
-/// The members of a batch: their rows are kept until all of them have ended. A batch starts its threads anew, so that
-/// many small ones would cost more than they do.
+/// The members of a batch: their rows are stored until all of them have ended. Each batch starts its threads again,
+/// so using small batches would cost more.
 const BATCH: usize = 1024;
 
-/// What the members of a campaign are run with.
+/// What is needed to run the members of a campaign.
 #[derive(Drop)]
 struct Runner<'a, R> {
     rt: &'a R,
     alloc: Global,
     plan: &'a Plan,
-    /// What the base's run showed.
+    /// The answers and final states of the base's run.
     shown: &'a Shown,
 }
 
-/// Some turns of a burst, the first of which comes after some.
+/// Consecutive instructions of a burst: `count` of them after the first `after` ones.
 #[derive(Clone, Copy)]
 struct Turns {
     burst: u32,
@@ -49,12 +50,12 @@ struct Turns {
 }
 
 /// Runs a campaign and writes its table. The rows of a batch of up to 1,024 members are written as soon as these have
-/// ended, and no longer kept: memory does not grow with the number of members.
+/// ended, and are then dropped: memory does not grow with the number of members.
 ///
 /// # Errors
 ///
-/// A fault of the sink, or out of memory. The sink has then gained a prefix of the table's text. A table whose numbers
-/// have no room in 64 bits ends as out of memory.
+/// The sink failed, or memory ran out. The sink has then received a prefix of the table's text. A table whose numbers
+/// do not fit in 64 bits ends as if memory had run out.
 pub fn write_campaign<R: Threads + Sync, K: Sink>(
     rt: &R,
     alloc: Global,
@@ -63,7 +64,7 @@ pub fn write_campaign<R: Threads + Sync, K: Sink>(
 ) -> Result<(), WriteStop>
     requires { IsValidPlan plan.now }
     ensures { (base : Ran) (rows : List Row) → IsPlanTable plan.now base rows
-        → Wrote (K.held sink.old) (K.held sink.new) (K.count sink.old) (K.count sink.new) result
+        → Wrote (change K.held K.count sink.old sink.new) result
         (plan_table_text plan.now base rows) }
 {
     let base = base_of(alloc, plan)?;
@@ -74,9 +75,9 @@ pub fn write_campaign<R: Threads + Sync, K: Sink>(
         plan,
         shown: &base.shown,
     };
-    let mut tally = Tally::new();
-    write_members(&run, base.places.as_slice(), &mut tally, sink)?;
-    write_tally(alloc, sink, plan.guard, tally)
+    let mut totals = CampaignCounts::new();
+    write_members(&run, base.points.as_slice(), &mut totals, sink)?;
+    write_counts(alloc, sink, plan.guard, totals)
 }
 
 /// Writes the base's row, if every fault of some kinds is run.
@@ -86,7 +87,7 @@ fn write_first<K: Sink>(
     row: &Row,
     sink: &mut K,
 ) -> Result<(), WriteStop>
-    ensures { Wrote (K.held sink.old) (K.held sink.new) (K.count sink.old) (K.count sink.new) result
+    ensures { Wrote (change K.held K.count sink.old sink.new) result
         (base_line (runs_every plan.now.strikes) row.now) }
 {
     match &plan.strikes {
@@ -98,45 +99,47 @@ fn write_first<K: Sink>(
 /// Writes the rows of all members, and counts them.
 fn write_members<R: Threads + Sync, K: Sink>(
     run: &Runner<'_, R>,
-    places: &[BurstPlaces],
-    tally: &mut Tally,
+    points: &[BurstPoints],
+    totals: &mut CampaignCounts,
     sink: &mut K,
 ) -> Result<(), WriteStop>
     requires valid { IsValidPlan run.now.plan.now }
-    requires places { ArePlacesOf run.now.plan.now places.now }
+    requires points { ArePointsOf run.now.plan.now points.now }
     ensures { (own : Ran) → IsBaseRun run.now.plan.now own → IsShown own run.now.shown.now
-        → GivesRows run.now.plan.now own (members run.now.plan.now own) (K.held sink.old) (K.held sink.new)
-        (K.count sink.old) (K.count sink.new) tally.old tally.new result }
+        → GivesRows run.now.plan.now own (members run.now.plan.now own)
+        (change K.held K.count sink.old sink.new) totals.old totals.new result }
 {
     match &run.plan.strikes {
-        Strikes::Faults(faults) => write_alone(run, faults.as_slice(), tally, sink),
-        Strikes::Members(members) => write_lists(run, members.as_slice(), tally, sink),
-        Strikes::Every(kinds) => write_bursts(run, kinds.as_slice(), places, tally, sink),
+        Strikes::Faults(faults) => write_alone(run, faults.as_slice(), totals, sink),
+        Strikes::Members(members) => write_lists(run, members.as_slice(), totals, sink),
+        Strikes::Every(kinds) => write_bursts(run, kinds.as_slice(), points, totals, sink),
     }
 }
 
-/// Writes the rows of the members with each fault of some kinds in some bursts, and counts them.
+/// Writes the rows of the members with each fault of the given kinds in the given bursts, and counts them.
 fn write_bursts<R: Threads + Sync, K: Sink>(
     run: &Runner<'_, R>,
     kinds: &[FaultKind],
-    places: &[BurstPlaces],
-    tally: &mut Tally,
+    points: &[BurstPoints],
+    totals: &mut CampaignCounts,
     sink: &mut K,
 ) -> Result<(), WriteStop>
     requires valid { IsValidPlan run.now.plan.now }
-    requires can_run { All (CanRunMember run.now.plan.now) (map alone (faults_at kinds.now places.now)) }
-    ensures { GivesRowsBeside run.now.plan.now run.now.shown.now (map alone (faults_at kinds.now places.now))
-        (K.held sink.old) (K.held sink.new) (K.count sink.old) (K.count sink.new) tally.old tally.new result }
+    requires can_run { All (CanRunMember run.now.plan.now)
+        (map alone (faults_at kinds.now points.now)) }
+    ensures { GivesRowsOver run.now.plan.now run.now.shown.now
+        (map alone (faults_at kinds.now points.now))
+        (change K.held K.count sink.old sink.new) totals.old totals.new result }
 {
-    let Some((first, more)) = places.split_first() else {
+    let Some((first, more)) = points.split_first() else {
         return Ok(());
     };
-    let turns = all_turns(first.burst, first.places);
-    write_burst(run, kinds, turns, tally, sink)?;
-    write_bursts(run, kinds, more, tally, sink)
+    let turns = all_turns(first.burst, first.points);
+    write_burst(run, kinds, turns, totals, sink)?;
+    write_bursts(run, kinds, more, totals, sink)
 }
 
-/// The turns of a burst, from the first on.
+/// The instructions of a burst, from the first on.
 fn all_turns(burst: u32, count: u32) -> Turns
     ensures burst { result.burst ≡ burst }
     ensures after { result.after ≡ 0 }
@@ -150,38 +153,38 @@ fn all_turns(burst: u32, count: u32) -> Turns
     }
 }
 
-/// Writes the rows of the members with each fault of some kinds in a burst, before each of some turns, the first of which
-/// comes after some, and counts them.
+/// Writes the rows of the members with each fault of the given kinds in a burst, before each of these instructions, and
+/// counts them.
 fn write_burst<R: Threads + Sync, K: Sink>(
     run: &Runner<'_, R>,
     kinds: &[FaultKind],
     turns: Turns,
-    tally: &mut Tally,
+    totals: &mut CampaignCounts,
     sink: &mut K,
 ) -> Result<(), WriteStop>
     requires valid { IsValidPlan run.now.plan.now }
     requires few { turns.after + turns.count < 2 ^ 32 }
     requires can_run { All (CanRunMember run.now.plan.now)
         (map alone (faults_in kinds.now turns.burst turns.after turns.count)) }
-    ensures { GivesRowsBeside run.now.plan.now run.now.shown.now
+    ensures { GivesRowsOver run.now.plan.now run.now.shown.now
         (map alone (faults_in kinds.now turns.burst turns.after turns.count))
-        (K.held sink.old) (K.held sink.new) (K.count sink.old) (K.count sink.new) tally.old tally.new result }
+        (change K.held K.count sink.old sink.new) totals.old totals.new result }
 {
     if turns.count == 0 {
         return Ok(());
     }
     let count = turns.count.min(turns_at_once(kinds.len()));
     let faults = faults_in(run.alloc, kinds, turns.burst, turns.after, count)?;
-    write_alone(run, faults.as_slice(), tally, sink)?;
+    write_alone(run, faults.as_slice(), totals, sink)?;
     let later = Turns {
         after: turns.after + count,
         count: turns.count - count,
         ..turns
     };
-    write_burst(run, kinds, later, tally, sink)
+    write_burst(run, kinds, later, totals, sink)
 }
 
-/// How many turns of a burst come into a batch of some kinds of fault: one at least.
+/// How many instructions of a burst fit into a batch with this many kinds of fault: at least one.
 fn turns_at_once(kinds: usize) -> u32
     ensures { 0 < result }
 {
@@ -195,57 +198,57 @@ fn turns_at_once(kinds: usize) -> u32
 fn write_alone<R: Threads + Sync, K: Sink>(
     run: &Runner<'_, R>,
     faults: &[Fault],
-    tally: &mut Tally,
+    totals: &mut CampaignCounts,
     sink: &mut K,
 ) -> Result<(), WriteStop>
     requires valid { IsValidPlan run.now.plan.now }
     requires can_run { All (CanRunMember run.now.plan.now) (map alone faults.now) }
-    ensures { GivesRowsBeside run.now.plan.now run.now.shown.now (map alone faults.now)
-        (K.held sink.old) (K.held sink.new) (K.count sink.old) (K.count sink.new) tally.old tally.new result }
+    ensures { GivesRowsOver run.now.plan.now run.now.shown.now (map alone faults.now)
+        (change K.held K.count sink.old sink.new) totals.old totals.new result }
 {
     if faults.is_empty() {
         return Ok(());
     }
     let (batch, more) = faults.split_at(faults.len().min(BATCH));
     let members = each_alone(run.alloc, batch)?;
-    write_batch(run, members.as_slice(), tally, sink)?;
-    write_alone(run, more, tally, sink)
+    write_batch(run, members.as_slice(), totals, sink)?;
+    write_alone(run, more, totals, sink)
 }
 
-/// Writes the rows of some members, each given by its faults, and counts them.
+/// Writes the rows of members, each given by its faults, and counts them.
 fn write_lists<R: Threads + Sync, K: Sink>(
     run: &Runner<'_, R>,
     members: &[Faults],
-    tally: &mut Tally,
+    totals: &mut CampaignCounts,
     sink: &mut K,
 ) -> Result<(), WriteStop>
     requires valid { IsValidPlan run.now.plan.now }
     requires can_run { All (CanRunMember run.now.plan.now) members.now }
-    ensures { GivesRowsBeside run.now.plan.now run.now.shown.now members.now
-        (K.held sink.old) (K.held sink.new) (K.count sink.old) (K.count sink.new) tally.old tally.new result }
+    ensures { GivesRowsOver run.now.plan.now run.now.shown.now members.now
+        (change K.held K.count sink.old sink.new) totals.old totals.new result }
 {
     if members.is_empty() {
         return Ok(());
     }
     let (batch, more) = members.split_at(members.len().min(BATCH));
-    write_batch(run, batch, tally, sink)?;
-    write_lists(run, more, tally, sink)
+    write_batch(run, batch, totals, sink)?;
+    write_lists(run, more, totals, sink)
 }
 
 /// Runs a batch of members, writes their rows, and counts them.
 fn write_batch<R: Threads + Sync, K: Sink>(
     run: &Runner<'_, R>,
     members: &[Faults],
-    tally: &mut Tally,
+    totals: &mut CampaignCounts,
     sink: &mut K,
 ) -> Result<(), WriteStop>
     requires valid { IsValidPlan run.now.plan.now }
     requires can_run { All (CanRunMember run.now.plan.now) members.now }
-    ensures { GivesRowsBeside run.now.plan.now run.now.shown.now members.now
-        (K.held sink.old) (K.held sink.new) (K.count sink.old) (K.count sink.new) tally.old tally.new result }
+    ensures { GivesRowsOver run.now.plan.now run.now.shown.now members.now
+        (change K.held K.count sink.old sink.new) totals.old totals.new result }
 {
     let rows = run_members(run.rt, run.alloc, run.plan, run.shown, members)?;
-    let before = tally.members;
-    tally.count_all(rows.as_slice())?;
+    let before = totals.members;
+    totals.count_all(rows.as_slice())?;
     write_rows(run.alloc, sink, before + 1, rows.as_slice())
 }

@@ -1,4 +1,4 @@
-//! The injected faults of a part, found by the burst in which they strike.
+//! The injected faults of a part, indexed by the burst in which they strike.
 #![tactic(auto)]
 
 mod script;

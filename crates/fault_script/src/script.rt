@@ -9,7 +9,7 @@ use nook_data::scenario::{Fault, Faults};
 use std::alloc::Global;
 use std::marker::Model;
 
-/// The faults of a part by burst and then by place, those of one place as they were given.
+/// The faults of a part by burst and then by `after`; those with the same `after` in the order given.
 #[derive(Drop)]
 pub struct FaultScript {
     faults: Vec<Fault>,
@@ -28,19 +28,20 @@ impl Model for FaultScript {
 }
 
 impl FaultScript {
-    /// Puts the faults in order. The sort wants memory beside theirs.
+    /// Sorts the faults. The sort needs memory in addition to theirs.
     pub fn new(faults: Faults) -> Result<FaultScript, NoMemory>
-        ensures { IfOk result (λ script. (burst : ℕ) → faults_of_burst burst script ≡ faults_of_burst burst faults) }
+        ensures { IfOk result
+            (λ script. (burst : ℕ) → faults_of_burst burst script ≡ faults_of_burst burst faults) }
     {
         let mut faults = faults.into_vec();
-        // The second sort keeps the first one's order where the bursts are the same.
+        // The second sort keeps the first one's order among faults of the same burst.
         faults.sort_by_key(|fault| fault.after)?;
         faults.sort_by_key(|fault| fault.burst)?;
         Ok(FaultScript { faults })
     }
 
-    /// The faults of a burst, in the order in which they strike. It looks at few of the others: the faults of
-    /// one burst stand together.
+    /// The faults of a burst, in the order in which they strike. It looks at few of the others, because the faults of
+    /// one burst are consecutive.
     pub fn faults_at(&self, burst: u32) -> &[Fault]
         ensures { result.now ≡ faults_of_burst burst self.now }
     {

@@ -15,7 +15,7 @@ use Rattle.promise_defs.specs.Contract.{Deed, Known, after_deed, breaks, call_of
 use Rattle.front_laws.specs.Guarded.{IsFirstWrong, broken_by}
 use Rattle.front_laws.proofs.Striking.{by_option}
 
--- a clause is among all of them
+-- a clause is among all clauses
 
 find_none : (test : Clause → Bool) (clauses : List Clause) → find test clauses ≡ None → AllByRecursion (λ c. test c ≡ false) clauses
 find_none test [] h = tt
@@ -83,7 +83,7 @@ find_first test (x ∷ clauses) c h = split (test x)
     (filter test clauses, rw (e, filter) (ap (λ (y : Clause). y ∷ filter test clauses) one)))
     (λ e. let more = find_first test clauses c (rw (e, find) at h) in (more.0, rw (e, filter) more.1))
 
--- one deed breaks what it breaks
+-- a list of one deed breaks what the deed breaks
 alone : (c : Clause) (call : ℕ) (k : Known) (d : Deed) → is_broken_by c call k (d ∷ []) ≡ breaks c k (call_of call k.calls) d
 alone c call k d = split (breaks c k (call_of call k.calls) d) (λ e. rw (e, is_broken_by) refl) (λ e. rw (e, is_broken_by) refl)
 
@@ -103,8 +103,8 @@ first_wrong call k (d ∷ ds) h = by_option (clause_of_deed call k d)
       later = ds;
       clause = c;
       more = found.0;
-      stands = ap (λ (n : ℕ). take n (d ∷ ds) ++ d ∷ ds) (sym z);
-      told = first_some call k d ds c some;
+      splits = ap (λ (n : ℕ). take n (d ∷ ds) ++ d ∷ ds) (sym z);
+      reported = first_some call k d ds c some;
       first_broken = ap (λ (n : ℕ). broken_by call (fold (after_deed call) k (take n (d ∷ ds))) (d ∷ [])) z
           ∙ same_filter (λ x. is_broken_by x call k (d ∷ [])) (λ x. breaks x k (call_of call k.calls) d) (λ x. alone x call k d) all_clauses
           ∙ found.1;
@@ -116,12 +116,12 @@ first_wrong call k (d ∷ ds) h = by_option (clause_of_deed call k d)
       later = more.later;
       clause = more.clause;
       more = more.more;
-      stands = ap (λ (xs : List Deed). d ∷ xs) more.stands ∙ ap (λ (n : ℕ). take n (d ∷ ds) ++ more.wrong ∷ more.later) (sym z);
-      told = first_none call k d ds none ∙ more.told;
+      splits = ap (λ (xs : List Deed). d ∷ xs) more.splits ∙ ap (λ (n : ℕ). take n (d ∷ ds) ++ more.wrong ∷ more.later) (sym z);
+      reported = first_none call k d ds none ∙ more.reported;
       first_broken = ap (λ (n : ℕ). broken_by call (fold (after_deed call) k (take n (d ∷ ds))) (more.wrong ∷ [])) z ∙ more.first_broken;
     })
 
--- deeds that follow the first wrong one change nothing before it
+-- deeds after the first wrong one change nothing before it
 
 pub before_front : (call : ℕ) (k : Known) (front rest rest' : List Deed) → deeds_before call k (front ++ rest) < length front
     → deeds_before call k (front ++ rest') ≡ deeds_before call k (front ++ rest)
@@ -132,7 +132,7 @@ before_front call k (d ∷ front) rest rest' h = by_option (clause_of_deed call 
     before_none call k d (front ++ rest) none in
     before_none call k d (front ++ rest') none ∙ ap suc (before_front call (after_deed call k d) front rest rest' (omega arith)) ∙ sym one)
 
--- a deed that is found breaks a clause
+-- a deed that was found breaks a clause
 
 find_true : (test : Clause → Bool) (clauses : List Clause) (c : Clause) → find test clauses ≡ Some c → test c ≡ true
 find_true test [] c h = let no : None ≡ Some c = h in absurd cc

@@ -1,4 +1,4 @@
--- A fault of some kinds is in the list of every fault, or no burst reaches it; so its row is one of the table's.
+-- A fault of some kinds is in the list of every fault, or no burst reaches it; so its row is in the table.
 use Rattle.std.proofs.Common.{◌≡◌, ◌⊎◌, ◌≤◌, ◌<◌, inl, inr, ℕ, zero, suc, ◌+◌, ◌==◌, Bool, true, false, ◌||◌, nat_lt, if◌then◌else◌, is_some, Option, Some, None, List, [], ◌∷◌, ◌++◌, map, slice_get, slice_set, refl, sym, ap, subst, ◌∙◌, arith, append_assoc}
 use Rattle.std.proofs.lemmas.Bool.{eqb-false, eqb-true, ltb-false, ltb-true}
 use Rattle.std.specs.List.{AllZip}
@@ -57,7 +57,7 @@ zip_at R (a ∷ front) x back [] h = absurd h
 zip_at R (a ∷ front) x back (row ∷ rows) h =
     let later = zip_at R front x back rows h.1 in (later.0, in_more later.0 row rows later.1, later.2)
 
--- ---- a fault of a burst is listed there, or not reached
+-- ---- a fault of a burst is listed there or not reached
 
 in_burst : (kinds : List FaultKind) (f : Fault) (after turns : ℕ) → IsIn kinds f.kind → after ≤ f.after → f.after < after + turns
     → IsIn (faults_in kinds f.burst after turns) f
@@ -140,7 +140,7 @@ pub listed_guarded : (kinds : List FaultKind) (f : Fault) (spec : PartSpec) (jou
     → IsIn (every_fault_guarded kinds spec journal) f ⊎ IsUnreachedGuarded f spec journal
 listed_guarded kinds f spec journal among = guarded_from_listed kinds f (opening spec) (known_at_first spec) journal among
 
--- ---- a fault that is not reached leaves the row
+-- ---- a fault that is not reached does not change the row
 
 module _ (f : Fault) where
   failing_same : (spec : PartSpec) (events : List Event) → IsUnreached f spec events
@@ -151,44 +151,44 @@ module _ (f : Fault) where
       → is_given_up (state_of (with_fault f spec) events) ≡ is_given_up (state_of spec events)
   given_up_same spec events h = ap is_given_up (unreached spec f events h).state
 
-  breaks_set : (place : ℕ) (specs : List PartSpec) (journals : List (List Event)) (spec : PartSpec) → slice_get specs place ≡ Some spec
-      → has_break (slice_set specs place (with_fault f spec)) journals ≡ has_break specs journals
+  breaks_set : (index : ℕ) (specs : List PartSpec) (journals : List (List Event)) (spec : PartSpec) → slice_get specs index ≡ Some spec
+      → has_break (slice_set specs index (with_fault f spec)) journals ≡ has_break specs journals
   unfolding has_break
-  breaks_set place [] journals spec e = none_is_some e
+  breaks_set index [] journals spec e = none_is_some e
   breaks_set zero (x ∷ specs) [] spec e = refl
   breaks_set zero (x ∷ specs) (events ∷ journals) spec e =
       ap (λ (y : PartSpec). is_some (first_break y.class y.blocks events) || has_break specs journals) (sym (same_inside e))
-  breaks_set (suc place) (x ∷ specs) [] spec e = refl
-  breaks_set (suc place) (x ∷ specs) (events ∷ journals) spec e =
-      ap (λ (b : Bool). is_some (first_break x.class x.blocks events) || b) (breaks_set place specs journals spec e)
+  breaks_set (suc index) (x ∷ specs) [] spec e = refl
+  breaks_set (suc index) (x ∷ specs) (events ∷ journals) spec e =
+      ap (λ (b : Bool). is_some (first_break x.class x.blocks events) || b) (breaks_set index specs journals spec e)
 
-  given_set : (place : ℕ) (specs : List PartSpec) (journals : List (List Event)) (spec : PartSpec) (journal : List Event)
-      → slice_get specs place ≡ Some spec → slice_get journals place ≡ Some journal → IsUnreached f spec journal
-      → has_given_up (slice_set specs place (with_fault f spec)) journals ≡ has_given_up specs journals
+  given_set : (index : ℕ) (specs : List PartSpec) (journals : List (List Event)) (spec : PartSpec) (journal : List Event)
+      → slice_get specs index ≡ Some spec → slice_get journals index ≡ Some journal → IsUnreached f spec journal
+      → has_given_up (slice_set specs index (with_fault f spec)) journals ≡ has_given_up specs journals
   unfolding has_given_up
-  given_set place [] journals spec journal e g h = none_is_some e
+  given_set index [] journals spec journal e g h = none_is_some e
   given_set zero (x ∷ specs) [] spec journal e g h = none_is_some g
   given_set zero (x ∷ specs) (events ∷ journals) spec journal e g h =
       ap (λ (b : Bool). b || has_given_up specs journals)
       (given_up_same spec events (subst (IsUnreached f spec) (sym (same_inside g)) h)
       ∙ ap (λ (y : PartSpec). is_given_up (state_of y events)) (sym (same_inside e)))
-  given_set (suc place) (x ∷ specs) [] spec journal e g h = none_is_some g
-  given_set (suc place) (x ∷ specs) (events ∷ journals) spec journal e g h =
-      ap (λ (b : Bool). is_given_up (state_of x events) || b) (given_set place specs journals spec journal e g h)
+  given_set (suc index) (x ∷ specs) [] spec journal e g h = none_is_some g
+  given_set (suc index) (x ∷ specs) (events ∷ journals) spec journal e g h =
+      ap (λ (b : Bool). is_given_up (state_of x events) || b) (given_set index specs journals spec journal e g h)
 
-  failures_set : (place : ℕ) (specs : List PartSpec) (journals : List (List Event)) (spec : PartSpec) (journal : List Event)
-      → slice_get specs place ≡ Some spec → slice_get journals place ≡ Some journal → IsUnreached f spec journal
-      → failures_count (slice_set specs place (with_fault f spec)) journals ≡ failures_count specs journals
+  failures_set : (index : ℕ) (specs : List PartSpec) (journals : List (List Event)) (spec : PartSpec) (journal : List Event)
+      → slice_get specs index ≡ Some spec → slice_get journals index ≡ Some journal → IsUnreached f spec journal
+      → failures_count (slice_set specs index (with_fault f spec)) journals ≡ failures_count specs journals
   unfolding failures_count
-  failures_set place [] journals spec journal e g h = none_is_some e
+  failures_set index [] journals spec journal e g h = none_is_some e
   failures_set zero (x ∷ specs) [] spec journal e g h = none_is_some g
   failures_set zero (x ∷ specs) (events ∷ journals) spec journal e g h =
       ap (λ (n : ℕ). n + failures_count specs journals)
       (failing_same spec events (subst (IsUnreached f spec) (sym (same_inside g)) h)
       ∙ ap (λ (y : PartSpec). (state_of y events).failures) (sym (same_inside e)))
-  failures_set (suc place) (x ∷ specs) [] spec journal e g h = none_is_some g
-  failures_set (suc place) (x ∷ specs) (events ∷ journals) spec journal e g h =
-      ap (λ (n : ℕ). (state_of x events).failures + n) (failures_set place specs journals spec journal e g h)
+  failures_set (suc index) (x ∷ specs) [] spec journal e g h = none_is_some g
+  failures_set (suc index) (x ∷ specs) (events ∷ journals) spec journal e g h =
+      ap (λ (n : ℕ). (state_of x events).failures + n) (failures_set index specs journals spec journal e g h)
 
 abbrev status_by : Bool → Bool → ℕ
 status_by broken gone = if broken then 7 else if gone then 1 else 0
@@ -202,26 +202,26 @@ row_by journals answers status failures = record {
   lost = lost_count journals;
 }
 
-row_same : (f : Fault) (place : ℕ) (specs : List PartSpec) (journals : List (List Event)) (answers : List (List (ℕ × Answer)))
-    (spec : PartSpec) (journal : List Event) → slice_get specs place ≡ Some spec → slice_get journals place ≡ Some journal
-    → IsUnreached f spec journal → row_of (struck_parts specs place f) journals answers ≡ row_of specs journals answers
+row_same : (f : Fault) (index : ℕ) (specs : List PartSpec) (journals : List (List Event)) (answers : List (List (ℕ × Answer)))
+    (spec : PartSpec) (journal : List Event) → slice_get specs index ≡ Some spec → slice_get journals index ≡ Some journal
+    → IsUnreached f spec journal → row_of (struck_parts specs index f) journals answers ≡ row_of specs journals answers
 unfolding row_of
-row_same f place specs journals answers spec journal e g h =
-    ap (λ (o : Option PartSpec). row_of (with_struck specs place f o) journals answers) e
+row_same f index specs journals answers spec journal e g h =
+    ap (λ (o : Option PartSpec). row_of (with_struck specs index f o) journals answers) e
     ∙ ap (λ (b : Bool). row_by journals answers (status_by b (has_given_up struck_specs journals)) (failures_count struck_specs journals))
-    (breaks_set f place specs journals spec e)
+    (breaks_set f index specs journals spec e)
     ∙ ap (λ (b : Bool). row_by journals answers (status_by (has_break specs journals) b) (failures_count struck_specs journals))
-    (given_set f place specs journals spec journal e g h)
-    ∙ ap (row_by journals answers (status_of specs journals)) (failures_set f place specs journals spec journal e g h)
+    (given_set f index specs journals spec journal e g h)
+    ∙ ap (row_by journals answers (status_of specs journals)) (failures_set f index specs journals spec journal e g h)
   where
     struck_specs : List PartSpec
-    struck_specs = slice_set specs place (with_fault f spec)
+    struck_specs = slice_set specs index (with_fault f spec)
 
-journal_at : (parts : List RunningPart) (place : ℕ) (seat : RunningPart) → slice_get parts place ≡ Some seat
-    → slice_get (map journal_of parts) place ≡ Some seat.run.journal
-journal_at [] place seat h = none_is_some h
+journal_at : (parts : List RunningPart) (index : ℕ) (seat : RunningPart) → slice_get parts index ≡ Some seat
+    → slice_get (map journal_of parts) index ≡ Some seat.run.journal
+journal_at [] index seat h = none_is_some h
 journal_at (x ∷ parts) zero seat h = ap (λ (y : RunningPart). Some y.run.journal) (same_inside h)
-journal_at (x ∷ parts) (suc place) seat h = journal_at parts place seat h
+journal_at (x ∷ parts) (suc index) seat h = journal_at parts index seat h
 
 status_is : (specs : List PartSpec) (journals : List (List Event)) (answers : List (List (ℕ × Answer)))
     → (row_of specs journals answers).status ≡ status_of specs journals
@@ -236,36 +236,36 @@ row_status scenario row r ends =
 
 -- ---- the row of every fault
 
-module _ (scenario : Scenario) (place : ℕ) (spec : PartSpec) (s : Simulation) (seat : RunningPart) (run : IsScheduledRun scenario s)
-    (there : slice_get scenario.parts place ≡ Some spec) (at : slice_get s.parts place ≡ Some seat) where
-  past_row : (f : Fault) → IsUnreached f spec seat.run.journal → IsRowOf (struck scenario place f) (base_row scenario s)
+module _ (scenario : Scenario) (index : ℕ) (spec : PartSpec) (s : Simulation) (seat : RunningPart) (run : IsScheduledRun scenario s)
+    (there : slice_get scenario.parts index ≡ Some spec) (at : slice_get s.parts index ≡ Some seat) where
+  past_row : (f : Fault) → IsUnreached f spec seat.run.journal → IsRowOf (struck scenario index f) (base_row scenario s)
   past_row f past = record {
-    simulation = owned (struck_at place f) s;
-    scheduled = scheduled_same scenario place f s spec seat run there at past;
-    same = sym (ap (λ (journals : List (List Event)). row_of (struck_parts scenario.parts place f) journals (answer_table s))
-        (owned_journals (struck_at place f) s)
-        ∙ row_same f place scenario.parts (journals_of s) (answer_table s) spec seat.run.journal there (journal_at s.parts place seat at) past);
+    simulation = owned (struck_at index f) s;
+    scheduled = scheduled_same scenario index f s spec seat run there at past;
+    same = sym (ap (λ (journals : List (List Event)). row_of (struck_parts scenario.parts index f) journals (answer_table s))
+        (owned_journals (struck_at index f) s)
+        ∙ row_same f index scenario.parts (journals_of s) (answer_table s) spec seat.run.journal there (journal_at s.parts index seat at) past);
   }
 
   pub row_of_every : (kinds : List FaultKind) (rows : List MemberRow) (f : Fault)
-      → AreRowsOf scenario place (every_fault kinds spec seat.run.journal) rows → IsIn kinds f.kind
-      → (row : MemberRow) × IsIn (base_row scenario s ∷ rows) row × IsRowOf (struck scenario place f) row
+      → AreRowsOf scenario index (every_fault kinds spec seat.run.journal) rows → IsIn kinds f.kind
+      → (row : MemberRow) × IsIn (base_row scenario s ∷ rows) row × IsRowOf (struck scenario index f) row
   row_of_every kinds rows f zipped among = by_list (listed kinds f spec seat.run.journal among)
     where
       by_list : IsIn (every_fault kinds spec seat.run.journal) f ⊎ IsUnreached f spec seat.run.journal
-          → (row : MemberRow) × IsIn (base_row scenario s ∷ rows) row × IsRowOf (struck scenario place f) row
+          → (row : MemberRow) × IsIn (base_row scenario s ∷ rows) row × IsRowOf (struck scenario index f) row
       by_list (inl (front, back, e)) =
-          let found = zip_at (λ (g : Fault) (row : MemberRow). IsRowOf (struck scenario place g) row) front f back rows
-          (subst (λ (faults : List Fault). AreRowsOf scenario place faults rows) e zipped) in
+          let found = zip_at (λ (g : Fault) (row : MemberRow). IsRowOf (struck scenario index g) row) front f back rows
+          (subst (λ (faults : List Fault). AreRowsOf scenario index faults rows) e zipped) in
           (found.0, in_more found.0 (base_row scenario s) rows found.1, found.2)
       by_list (inr past) = (base_row scenario s, ([], rows, refl), past_row f past)
 
   pub kept_by_rows : (kinds : List FaultKind) (rows : List MemberRow) (f : Fault)
-      → AreRowsOf scenario place (every_fault kinds spec seat.run.journal) rows → IsIn kinds f.kind
-      → AllKept (base_row scenario s ∷ rows) → EndsWell (struck scenario place f)
+      → AreRowsOf scenario index (every_fault kinds spec seat.run.journal) rows → IsIn kinds f.kind
+      → AllKept (base_row scenario s ∷ rows) → EndsWell (struck scenario index f)
   kept_by_rows kinds rows f zipped among all =
       let found = row_of_every kinds rows f zipped among in record {
         simulation = found.2.simulation;
         scheduled = found.2.scheduled;
-        status_is = row_status (struck scenario place f) found.0 found.2 (all found.0 found.1);
+        status_is = row_status (struck scenario index f) found.0 found.2 (all found.0 found.1);
       }

@@ -1,4 +1,4 @@
--- The trap at the first break of a scenario's run: it is the first trap of the guarded run, and the first that is found.
+-- The trap at the first break of a scenario's run is the first trap of the guarded run, and the first that is found.
 use Rattle.std.proofs.Common.{◌≡◌, ◌<◌, ℕ, zero, suc, ◌+◌, ◌-◌, Option, Some, None, List, [], ◌∷◌, ◌++◌, map, option_map, slice_get, slice_set, refl, sym, ap, subst, ◌∙◌, arith, append_assoc}
 use Rattle.nook_data.proofs.Options.{none_is_some, same_inside}
 use Rattle.nook_data.specs.Members.{struck}
@@ -11,12 +11,12 @@ use Rattle.nook_data.specs.declared.steps.Step.TheVariants as step
 use Rattle.guard_defs.specs.declared.stop.Stop.{Stop}
 use Rattle.guard_defs.specs.FirstBreaks.{IsFirstStop, NoneBreaks, picked_choice}
 use Rattle.guard_defs.specs.Guard.{guard, guard_trap, guarded, known_at_first, trap_for, with_own, with_trap}
-use Rattle.guard_defs.specs.GuardedRuns.{guarded_moved, guarded_runs, guarded_seat, guarded_taken, known_of, spec_of, stop_at, stop_by, stop_made, stop_of, stops_found, told_clause}
+use Rattle.guard_defs.specs.GuardedRuns.{guarded_moved, guarded_runs, guarded_seat, guarded_taken, known_of, spec_of, stop_at, stop_by, stop_made, stop_of, stops_found, reported_clause}
 use Rattle.part_defs.specs.Runs.{event_of}
 use Rattle.part_defs.specs.State.{PartState}
 use Rattle.part_defs.specs.Steps.{opening}
 use Rattle.part_laws.proofs.DeviceStays.{opening_spec, spec_after}
-use Rattle.part_laws.proofs.Places.{get_map}
+use Rattle.part_laws.proofs.Indices.{get_map}
 use Rattle.part_laws.proofs.RunsDetermined.{step_named}
 use Rattle.promise_defs.specs.Contract.{Known, broken, first_break}
 use Rattle.run_defs.proofs.RunChanges.{taken_by}
@@ -72,11 +72,11 @@ pub specs_of_run : (scenario : Scenario) (n : ℕ) → map spec_of (runs n (begi
 unfolding begins
 specs_of_run scenario n = run_specs n (begins scenario) ∙ opened_specs scenario.parts
 
-pub spec_there : (scenario : Scenario) (n place : ℕ) (seat : RunningPart) → At (runs n (begins scenario)) place seat
-    → slice_get scenario.parts place ≡ Some (spec_of seat)
-spec_there scenario n place seat at =
-    ap (λ (specs : List PartSpec). slice_get specs place) (sym (specs_of_run scenario n))
-    ∙ get_map spec_of (runs n (begins scenario)).parts place seat at
+pub spec_there : (scenario : Scenario) (n index : ℕ) (seat : RunningPart) → At (runs n (begins scenario)) index seat
+    → slice_get scenario.parts index ≡ Some (spec_of seat)
+spec_there scenario n index seat at =
+    ap (λ (specs : List PartSpec). slice_get specs index) (sym (specs_of_run scenario n))
+    ∙ get_map spec_of (runs n (begins scenario)).parts index seat at
 
 -- ---- its trap is the first one
 
@@ -116,13 +116,13 @@ spec_at (x ∷ parts) (spec ∷ specs) (suc i) seat a h = spec_at parts specs i 
 
 pub guarded_keeps : (scenario : Scenario) (n : ℕ) → NoneBreaks (guarded_runs n (begins scenario))
 unfolding first_break
-guarded_keeps scenario n = λ place seat at.
-    let there = spec_at (guarded_runs n (begins scenario)).parts scenario.parts place seat (begins_of scenario n) at in
-    let g : IsGuardedPart there.0 seat = guarded_part scenario place n there.0 seat there.1 at in
+guarded_keeps scenario n = λ index seat at.
+    let there = spec_at (guarded_runs n (begins scenario)).parts scenario.parts index seat (begins_of scenario n) at in
+    let g : IsGuardedPart there.0 seat = guarded_part scenario index n there.0 seat there.1 at in
     ap (λ (spec : PartSpec). first_break spec.class spec.blocks seat.run.journal) g.faults
     ∙ guarded_kept 1 (opening there.0) (known_at_first there.0) seat.run.journal g.run
 
--- ---- with the trap from the start nothing is broken up to its burst, and by it
+-- ---- with the trap from the start nothing is broken before or by its burst
 
 unstopped : (p : PartState) (k : Known) (s : Step) → guard p k s ≡ None → guarded p k s ≡ p
 unfolding guarded
@@ -157,9 +157,9 @@ struck_free p k s f e =
     subst (λ (q : PartState). guard q k s ≡ None) (guarded_with p k s f e)
     (step_free (guarded p k s) k s (step_kept p k s (event_of (guarded p k s) s) (sym (step_named (guarded p k s) s)) refl)).0
 
-struck_alike : (scenario : Scenario) (place : ℕ) (f : Fault) (steps : ℕ) → IsFirstTrap scenario place f steps
-    → guarded_runs (suc steps) (begins (struck scenario place f)) ≡ runs (suc steps) (begins (struck scenario place f))
-struck_alike scenario place f steps h =
+struck_alike : (scenario : Scenario) (index : ℕ) (f : Fault) (steps : ℕ) → IsFirstTrap scenario index f steps
+    → guarded_runs (suc steps) (begins (struck scenario index f)) ≡ runs (suc steps) (begins (struck scenario index f))
+struck_alike scenario index f steps h =
     let c : Choice = h.choice in
     let t : Simulation = runs steps (begins scenario) in
     let change : ℕ → List Fault → List Fault = struck_at c.part f in
@@ -183,12 +183,12 @@ struck_alike scenario place f steps h =
     ∙ ap (runs (suc zero)) (sym runs_to)
     ∙ sym (runs_more steps (suc zero) (suc steps) s (omega arith)))
 
-pub struck_keeps : (scenario : Scenario) (place : ℕ) (f : Fault) (steps : ℕ) → IsFirstTrap scenario place f steps
-    → NoneBreaks (runs (suc steps) (begins (struck scenario place f)))
-struck_keeps scenario place f steps h =
-    subst NoneBreaks (struck_alike scenario place f steps h) (guarded_keeps (struck scenario place f) (suc steps))
+pub struck_keeps : (scenario : Scenario) (index : ℕ) (f : Fault) (steps : ℕ) → IsFirstTrap scenario index f steps
+    → NoneBreaks (runs (suc steps) (begins (struck scenario index f)))
+struck_keeps scenario index f steps h =
+    subst NoneBreaks (struck_alike scenario index f steps h) (guarded_keeps (struck scenario index f) (suc steps))
 
--- ---- the traps found in so many steps, and in some more
+-- ---- the traps found in a number of steps, and in some more
 
 guarded_front : (n : ℕ) (s : Simulation) → guarded_runs (suc n) s ≡ guarded_runs n (guarded_moved s (choices_of s))
 guarded_front n s = guarded_runs_is n s ∙ by_choices (choices_of s) refl
@@ -213,12 +213,12 @@ stops_still zero s h = refl
 stops_still (suc n) s h =
     ap (λ (choices : List Choice). stop_made s choices ++ stops_found n (guarded_moved s choices)) h ∙ stops_still n s h
 
--- ---- where nothing is broken no trap is found
+-- ---- if nothing is broken, no trap is found
 
 none_at : (c : Choice) (o : Option RunningPart)
     → ((seat : RunningPart) → o ≡ Some seat → guard seat.run.state (known_of seat) c.step ≡ None) → stop_at c o ≡ []
 none_at c None h = refl
-none_at c (Some seat) h = ap (λ (o : Option Fault). stop_of c.part o (told_clause seat.run.state (known_of seat) c.step)) (h seat refl)
+none_at c (Some seat) h = ap (λ (o : Option Fault). stop_of c.part o (reported_clause seat.run.state (known_of seat) c.step)) (h seat refl)
 
 none_by : (more : ℕ) (s : Simulation) (choices : List Choice) (o : Option Choice) → pick_of s choices ≡ o
     → NoneBreaks (runs more (taken s choices)) → stop_by s.parts o ≡ []
@@ -264,7 +264,7 @@ one_stop part f clause = record { part = part; trap = f; clause = clause } ∷ [
 
 made_at : (t : Simulation) (c : Choice) (seat : RunningPart) → picked_choice t ≡ Some c → At t c.part seat
     → stop_made t (choices_of t)
-    ≡ stop_of c.part (guard seat.run.state (known_of seat) c.step) (told_clause seat.run.state (known_of seat) c.step)
+    ≡ stop_of c.part (guard seat.run.state (known_of seat) c.step) (reported_clause seat.run.state (known_of seat) c.step)
 unfolding stop_made
 made_at t c seat picks at = ap (stop_by t.parts) picks ∙ ap (stop_at c) at
 
@@ -273,10 +273,10 @@ stop_is_made : (scenario : Scenario) (stop : Stop) (h : IsFirstStop scenario sto
 stop_is_made scenario stop h =
     let p : PartState = h.seat.run.state in
     let k : Known = known_of h.seat in
-    let told : told_clause p k h.choice.step ≡ Some stop.clause = ap (told_clause p k) h.first.burst ∙ h.clause in
+    let reported : reported_clause p k h.choice.step ≡ Some stop.clause = ap (reported_clause p k) h.first.burst ∙ h.clause in
     made_at (runs h.steps (begins scenario)) h.choice h.seat h.first.picks h.first.at
-    ∙ ap (λ (o : Option Fault). stop_of h.choice.part o (told_clause p k h.choice.step)) (stop_guard scenario stop h)
-    ∙ ap (λ (o : Option Clause). stop_of h.choice.part (Some stop.trap) o) told
+    ∙ ap (λ (o : Option Fault). stop_of h.choice.part o (reported_clause p k h.choice.step)) (stop_guard scenario stop h)
+    ∙ ap (λ (o : Option Clause). stop_of h.choice.part (Some stop.trap) o) reported
     ∙ ap (λ (part : ℕ). one_stop part stop.trap stop.clause) (sym h.part)
 
 pub stop_found : (scenario : Scenario) (stop : Stop) (h : IsFirstStop scenario stop) → stops_found (suc h.steps) (begins scenario) ≡ stop ∷ []

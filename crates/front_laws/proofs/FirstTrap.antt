@@ -30,7 +30,7 @@ use Rattle.front_laws.proofs.Unreached.{bursts_after, is_burst_step, later_step}
 use Rattle.front_laws.proofs.WholeRuns.{At, Follows, begins_at, follows_next, grown, next_seat, opening_follows, owning_none}
 use Rattle.front_laws.proofs.WholeRuns.{struck_here, struck_other, whole_same}
 
--- ---- so many steps, and some more
+-- ---- a number of steps, and some more
 
 pub guarded_more : (a b n : ℕ) (s : Simulation) → n ≡ a + b → guarded_runs n s ≡ guarded_runs b (guarded_runs a s)
 unfolding guarded_runs
@@ -59,14 +59,14 @@ runs_more (suc a) b (suc n) s e = by_choices (choices_of s) refl (λ x. runs_mor
     by_choices [] none again = sym (runs_still b s none)
     by_choices (c ∷ choices) some again = again (taken s (c ∷ choices))
 
--- ---- what holds of a run holds of each front of it
+-- ---- what holds of a run holds of each prefix of it
 
-front_kept : (place : ℕ) (k : Known) (front more : List Event) → break_from place k (front ++ more) ≡ None → break_from place k front ≡ None
+front_kept : (number : ℕ) (k : Known) (front more : List Event) → break_from number k (front ++ more) ≡ None → break_from number k front ≡ None
 unfolding break_from
-front_kept place k [] more h = refl
-front_kept place k (e ∷ front) more h =
-    let first = first_kept place k e (front ++ more) h in
-    rw (first.0, break_from) (front_kept (suc place) (known_after k e) front more first.1)
+front_kept number k [] more h = refl
+front_kept number k (e ∷ front) more h =
+    let first = first_kept number k e (front ++ more) h in
+    rw (first.0, break_from) (front_kept (suc number) (known_after k e) front more first.1)
 
 seat_kept : (seat later : RunningPart) → free.Grows seat later
     → first_break later.run.state.spec.class later.run.state.spec.blocks later.run.journal ≡ None
@@ -78,10 +78,10 @@ seat_kept seat later g kept =
     ∙ ap (break_from 1 (known_at_first later.run.state.spec)) (sym g.journal) ∙ kept)
 
 pub kept_before : (n d steps : ℕ) (s : Simulation) → steps ≡ n + d → NoneBreaks (runs steps s) → NoneBreaks (runs n s)
-kept_before n d steps s e kept = λ place seat at.
-    let later = free.grown d (runs n s) place seat at in
-    let there : At (runs steps s) place later.0 = ap (λ (x : Simulation). slice_get x.parts place) (runs_more n d steps s e) ∙ later.1 in
-    seat_kept seat later.0 later.2 (kept place later.0 there)
+kept_before n d steps s e kept = λ number seat at.
+    let later = free.grown d (runs n s) number seat at in
+    let there : At (runs steps s) number later.0 = ap (λ (x : Simulation). slice_get x.parts number) (runs_more n d steps s e) ∙ later.1 in
+    seat_kept seat later.0 later.2 (kept number later.0 there)
 
 past_front : (f : Fault) (p : PartState) (front more : List Event) → IsPastFrom f p (front ++ more) → IsPastFrom f p front
 unfolding IsPastFrom
@@ -109,20 +109,20 @@ past_before f p (e ∷ events) h =
     (later_step f p (step_of e) (omega arith), past_before f (state_after p (step_of e)) events h)
 
 abbrev HasFollowed : PartState → Simulation → ℕ → Type 0
-HasFollowed p t place = (later : RunningPart) × At t place later × Follows p later
+HasFollowed p t number = (later : RunningPart) × At t number later × Follows p later
 
-followed : (p : PartState) (n : ℕ) (s : Simulation) (place : ℕ) (seat : RunningPart) → At s place seat → Follows p seat → HasFollowed p (runs n s) place
+followed : (p : PartState) (n : ℕ) (s : Simulation) (number : ℕ) (seat : RunningPart) → At s number seat → Follows p seat → HasFollowed p (runs n s) number
 unfolding runs
-followed p zero s place seat at h = (seat, at, h)
-followed p (suc more) s place seat at h = by_choices (choices_of s) (λ x next there follows. followed p more x place next there follows)
+followed p zero s number seat at h = (seat, at, h)
+followed p (suc more) s number seat at h = by_choices (choices_of s) (λ x next there follows. followed p more x number next there follows)
   where
     by_choices : (choices : List Choice)
-        → ((x : Simulation) (next : RunningPart) → At x place next → Follows p next → HasFollowed p (runs more x) place)
-        → HasFollowed p (go_on more s choices) place
+        → ((x : Simulation) (next : RunningPart) → At x number next → Follows p next → HasFollowed p (runs more x) number)
+        → HasFollowed p (go_on more s choices) number
     by_choices [] again = (seat, at, h)
     by_choices (c ∷ choices) again =
-        let next = next_seat s place seat (c ∷ choices) at in
-        again (taken s (c ∷ choices)) next.0 next.1 (follows_next p seat next.0 (pick_of s (c ∷ choices)) place h next.2)
+        let next = next_seat s number seat (c ∷ choices) at in
+        again (taken s (c ∷ choices)) next.0 next.1 (follows_next p seat next.0 (pick_of s (c ∷ choices)) number h next.2)
 
 -- ---- the step that is stopped
 
@@ -141,7 +141,7 @@ seat_stopped s seat f e =
     (ap (λ (q : PartState). guarded q (known_of seat) s) (sym (guarded_with seat.run.state (known_of seat) s f e))
     ∙ guarded_again seat.run.state (known_of seat) s)
 
--- another part at the place hides what the part there had
+-- another part at the index hides what the part there had
 set_hides : (c : ℕ → List Fault → List Fault) (n i j : ℕ) (parts : List RunningPart) (x : RunningPart) → j ≡ n + i
     → ((k : ℕ) (own : List Fault) → (k ≡ j → ⊥) → c k own ≡ own) → slice_set (owning c n parts) i x ≡ slice_set parts i x
 set_hides c n i j [] x h other = refl
@@ -190,17 +190,17 @@ rest_same more f t c seat picks at e =
         ∙ ap (guarded_by t (order_of t (x ∷ choices))) (sym h)
         ∙ sym (guarded_taken_is t (x ∷ choices)))
 
--- ---- with other faults no part breaks a clause that it does not break without
+-- ---- a part with other faults breaks no clause that it does not break without them
 
 owned_kept : (change : ℕ → List Fault → List Fault) (t : Simulation) → NoneBreaks t → NoneBreaks (owned change t)
-owned_kept change t kept = λ place seat at.
-    by_part place seat (slice_get t.parts place) refl (sym (get_owning change 0 place place t.parts (omega arith)) ∙ at)
+owned_kept change t kept = λ number seat at.
+    by_part number seat (slice_get t.parts number) refl (sym (get_owning change 0 number number t.parts (omega arith)) ∙ at)
   where
-    by_part : (place : ℕ) (seat : RunningPart) (o : Option RunningPart) → slice_get t.parts place ≡ o → option_map (seat_at change place) o ≡ Some seat
+    by_part : (number : ℕ) (seat : RunningPart) (o : Option RunningPart) → slice_get t.parts number ≡ o → option_map (seat_at change number) o ≡ Some seat
         → first_break seat.run.state.spec.class seat.run.state.spec.blocks seat.run.journal ≡ None
-    by_part place seat None e h = none_is_some h
-    by_part place seat (Some x) e h =
-        subst (λ (y : RunningPart). first_break y.run.state.spec.class y.run.state.spec.blocks y.run.journal ≡ None) (same_inside h) (kept place x e)
+    by_part number seat None e h = none_is_some h
+    by_part number seat (Some x) e h =
+        subst (λ (y : RunningPart). first_break y.run.state.spec.class y.run.state.spec.blocks y.run.journal ≡ None) (same_inside h) (kept number x e)
 
 -- ---- the whole scenario
 
@@ -262,8 +262,8 @@ module _ (scenario : Scenario) (f : Fault) (steps : ℕ) (spec : PartSpec) (c : 
       ∙ ap (guarded_runs (suc more)) (sym (alike_then steps 0 (omega arith)))
       ∙ sym (guarded_more steps (suc more) n (begins scenario) e)
 
-pub put_first : (scenario : Scenario) (place : ℕ) (f : Fault) (steps : ℕ) → IsFirstTrap scenario place f steps → IsPutFirst scenario place f steps
-put_first scenario place f steps h = subst (λ (i : ℕ). IsPutFirst scenario i f steps) h.part (record {
+pub put_first : (scenario : Scenario) (number : ℕ) (f : Fault) (steps : ℕ) → IsFirstTrap scenario number f steps → IsPutFirst scenario number f steps
+put_first scenario number f steps h = subst (λ (i : ℕ). IsPutFirst scenario i f steps) h.part (record {
   alike = λ n l. alike_then scenario f steps h.spec h.choice there h.kept h.picks h.seat at h.trap n (steps - n) (omega arith);
   before = λ n l. before_then scenario f steps h.spec h.choice there h.kept h.picks h.seat at h.trap n (steps - n) (omega arith);
   after = λ n l. after_then scenario f steps h.spec h.choice there h.kept h.picks h.seat at h.trap n (n - suc steps) (omega arith);
@@ -275,25 +275,25 @@ put_first scenario place f steps h = subst (λ (i : ℕ). IsPutFirst scenario i 
     at : At (runs steps (begins scenario)) h.choice.part h.seat
     at = ap (slice_get (runs steps (begins scenario)).parts) h.part ∙ h.at
 
--- a run that has ended stays as it is
+-- a run that has ended does not change
 ended_later : (n steps : ℕ) (s t : Simulation) → guarded_runs n s ≡ t → choices_of t ≡ [] → guarded_runs (n + suc steps) s ≡ t
 ended_later n steps s t e ended =
     guarded_more n (suc steps) (n + suc steps) s refl ∙ ap (guarded_runs (suc steps)) e ∙ guarded_still (suc steps) t ended
 
-pub first_there : (scenario : Scenario) (place : ℕ) (f : Fault) (steps : ℕ) (s : Simulation) → IsFirstTrap scenario place f steps
-    → IsGuardedSchedule (struck scenario place f) s → IsGuardedSchedule scenario s
-first_there scenario place f steps s h g = record {
+pub first_there : (scenario : Scenario) (number : ℕ) (f : Fault) (steps : ℕ) (s : Simulation) → IsFirstTrap scenario number f steps
+    → IsGuardedSchedule (struck scenario number f) s → IsGuardedSchedule scenario s
+first_there scenario number f steps s h g = record {
   steps = g.steps + suc steps;
-  reached = sym ((put_first scenario place f steps h).after (g.steps + suc steps) (omega arith))
-      ∙ ended_later g.steps steps (begins (struck scenario place f)) s g.reached g.ended;
+  reached = sym ((put_first scenario number f steps h).after (g.steps + suc steps) (omega arith))
+      ∙ ended_later g.steps steps (begins (struck scenario number f)) s g.reached g.ended;
   ended = g.ended;
 }
 
-pub first_back : (scenario : Scenario) (place : ℕ) (f : Fault) (steps : ℕ) (s : Simulation) → IsFirstTrap scenario place f steps
-    → IsGuardedSchedule scenario s → IsGuardedSchedule (struck scenario place f) s
-first_back scenario place f steps s h g = record {
+pub first_back : (scenario : Scenario) (number : ℕ) (f : Fault) (steps : ℕ) (s : Simulation) → IsFirstTrap scenario number f steps
+    → IsGuardedSchedule scenario s → IsGuardedSchedule (struck scenario number f) s
+first_back scenario number f steps s h g = record {
   steps = g.steps + suc steps;
-  reached = (put_first scenario place f steps h).after (g.steps + suc steps) (omega arith)
+  reached = (put_first scenario number f steps h).after (g.steps + suc steps) (omega arith)
       ∙ ended_later g.steps steps (begins scenario) s g.reached g.ended;
   ended = g.ended;
 }

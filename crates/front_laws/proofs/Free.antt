@@ -1,4 +1,4 @@
--- Where no part breaks a clause the guarded run is the scheduled run.
+-- If no part breaks a clause, the guarded run is the scheduled run.
 use Rattle.std.proofs.Common.{◌≡◌, inl, inr, ℕ, zero, suc, Option, Some, None, List, [], ◌∷◌, ◌++◌, fold, option_map, slice_get, refl, sym, ap, subst, ◌∙◌, append_assoc, append-nil}
 use Rattle.nook_data.specs.declared.scenario.PartSpec.{PartSpec}
 use Rattle.nook_data.specs.declared.scenario.Scenario.{Scenario}
@@ -17,12 +17,12 @@ use Rattle.front_laws.proofs.GuardedRuns.{guarded_by, guarded_on}
 use Rattle.front_laws.proofs.Owned.{go_on, order_of, pick_of}
 use Rattle.front_laws.proofs.WholeRuns.{At, IsNextSeat, next_seat}
 
--- an event in the midst of a journal that breaks nothing breaks nothing
-kept_at : (place : ℕ) (k : Known) (front : List Event) (e : Event) (more : List Event) → break_from place k (front ++ (e ∷ more)) ≡ None
+-- an event within a journal that breaks nothing breaks nothing
+kept_at : (number : ℕ) (k : Known) (front : List Event) (e : Event) (more : List Event) → break_from number k (front ++ (e ∷ more)) ≡ None
     → broken (fold known_after k front) e ≡ []
-kept_at place k [] e more h = (first_kept place k e more h).0
-kept_at place k (x ∷ front) e more h =
-    kept_at (suc place) (known_after k x) front e more (first_kept place k x (front ++ (e ∷ more)) h).1
+kept_at number k [] e more h = (first_kept number k e more h).0
+kept_at number k (x ∷ front) e more h =
+    kept_at (suc number) (known_after k x) front e more (first_kept number k x (front ++ (e ∷ more)) h).1
 
 -- a part keeps its spec, and its journal grows at its end
 pub record Grows (seat later : RunningPart) : Type 0 where
@@ -40,29 +40,29 @@ grows_on a b c x y = record {
   journal = y.journal ∙ ap (λ (l : List Event). l ++ y.more) x.journal ∙ append_assoc a.run.journal x.more y.more;
 }
 
-grows_by : (seat next : RunningPart) (o : Option Choice) (place : ℕ) → IsNextSeat seat o place next → Grows seat next
-grows_by seat next None place e = subst (Grows seat) (sym e) (same_grows seat)
-grows_by seat next (Some c) place (inl e) = subst (Grows seat) (sym e.1) (same_grows seat)
-grows_by seat next (Some c) place (inr e) = subst (Grows seat) (sym e.1)
+grows_by : (seat next : RunningPart) (o : Option Choice) (number : ℕ) → IsNextSeat seat o number next → Grows seat next
+grows_by seat next None number e = subst (Grows seat) (sym e) (same_grows seat)
+grows_by seat next (Some c) number (inl e) = subst (Grows seat) (sym e.1) (same_grows seat)
+grows_by seat next (Some c) number (inr e) = subst (Grows seat) (sym e.1)
     (record { spec = spec_after seat.run.state c.step; more = event_of seat.run.state c.step ∷ []; journal = refl })
 
 abbrev pub HasLater : Simulation → ℕ → RunningPart → Type 0
-HasLater t place seat = (later : RunningPart) × At t place later × Grows seat later
+HasLater t number seat = (later : RunningPart) × At t number later × Grows seat later
 
-pub grown : (n : ℕ) (s : Simulation) (place : ℕ) (seat : RunningPart) → At s place seat → HasLater (runs n s) place seat
+pub grown : (n : ℕ) (s : Simulation) (number : ℕ) (seat : RunningPart) → At s number seat → HasLater (runs n s) number seat
 unfolding runs
-grown zero s place seat at = (seat, at, same_grows seat)
-grown (suc more) s place seat at = by_choices (choices_of s) (λ x next there. grown more x place next there)
+grown zero s number seat at = (seat, at, same_grows seat)
+grown (suc more) s number seat at = by_choices (choices_of s) (λ x next there. grown more x number next there)
   where
     by_choices : (choices : List Choice)
-        → ((x : Simulation) (next : RunningPart) → At x place next → HasLater (runs more x) place next) → HasLater (go_on more s choices) place seat
+        → ((x : Simulation) (next : RunningPart) → At x number next → HasLater (runs more x) number next) → HasLater (go_on more s choices) number seat
     by_choices [] again = (seat, at, same_grows seat)
     by_choices (c ∷ choices) again =
-        let next = next_seat s place seat (c ∷ choices) at in
+        let next = next_seat s number seat (c ∷ choices) at in
         let later = again (taken s (c ∷ choices)) next.0 next.1 in
-        (later.0, later.1, grows_on seat next.0 later.0 (grows_by seat next.0 (pick_of s (c ∷ choices)) place next.2) later.2)
+        (later.0, later.1, grows_on seat next.0 later.0 (grows_by seat next.0 (pick_of s (c ∷ choices)) number next.2) later.2)
 
--- a part that makes an event which breaks nothing is not stopped
+-- a part whose event breaks nothing is not stopped
 pub free_step : (c : Choice) (seat later : RunningPart) → Grows (part_after c.step seat) later
     → first_break later.run.state.spec.class later.run.state.spec.blocks later.run.journal ≡ None
     → (guard seat.run.state (known_of seat) c.step ≡ None) × (guarded seat.run.state (known_of seat) c.step ≡ seat.run.state)

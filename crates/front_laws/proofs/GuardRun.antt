@@ -10,7 +10,7 @@ use Rattle.nook_data.specs.declared.steps.Event.TheVariants as event
 use Rattle.nook_data.specs.declared.steps.Step.{Step}
 use Rattle.nook_data.specs.declared.steps.Step.TheVariants as step
 use Rattle.guard_defs.specs.Guard.{IsGuardedFrom, IsGuardedRun, guard, guard_trap, guarded, guarded_from, known_at_first, trap_for, traps_from, traps_of}
-use Rattle.guard_defs.specs.Guard.{with_behind, with_first, with_own, with_trap}
+use Rattle.guard_defs.specs.Guard.{with_after, with_first, with_own, with_trap}
 use Rattle.machine_defs.specs.BurstFaults.{faults_of_burst}
 use Rattle.part_defs.specs.Domain.{domain_burst}
 use Rattle.part_defs.specs.Runs.{IsRun, IsRunFrom, event_of, state_after, state_from, step_of}
@@ -44,7 +44,7 @@ pub sooner : (n m : ℕ) (faults : List Fault) → n ≤ m → AreLater m faults
 sooner n m [] h a = tt
 sooner n m (f ∷ faults) h a = (let less : m < f.burst = a.0 in omega arith, sooner n m faults h a.1)
 
--- a burst of a part, with faults of later bursts behind its own
+-- a burst of a part, with faults of later bursts after its own
 pub later_same : (later : List Fault) (p : PartState) (s : Step) → AreLater (state_after p s).bursts later
     → IsSameBurst (p.spec.faults ++ later) p s
 later_same later p (step.Invoke thread o) h = tt
@@ -56,7 +56,7 @@ later_same later p (step.Burst context) h =
     (later_faults (p.bursts + 1) p.spec.faults later
     (subst (λ (n : ℕ). AreLater n later) (bursts_after p (step.Burst context)) h))
 
--- what the guard's trap of a step is
+-- the guard's trap of a step
 
 abbrev pub IsTrapOf : PartState → Step → Option Fault → PartState → Type 0
 IsTrapOf p s None q = q ≡ p
@@ -89,7 +89,7 @@ first_later : (p q : PartState) (s : Step) (o : Option Fault) (rest : List Fault
 first_later p q s None rest h a = a
 first_later p q s (Some f) rest h a = (let e : f.burst ≡ p.bursts + 1 = h.0 in omega arith, a)
 
--- the traps of later steps are of later bursts
+-- the traps of later steps belong to later bursts
 pub traps_later : (p : PartState) (k : Known) (events : List Event) → AreLater p.bursts (traps_from p k events)
 unfolding traps_from
 traps_later p k [] = tt
@@ -163,12 +163,12 @@ step_kept p k (step.Burst context) e named h = by_clauses (broken k (event_of p 
         ap (broken k) (sym h) ∙ ap (λ (xs : List Clause). broken k (event_of (with_trap (trap_for xs (guard_trap context p k)) p) (step.Burst context))) none ∙ none
     by_clauses (c ∷ more) some = ap (broken k) (sym h) ∙ (stopped context p k c more some).kept
 
-pub guarded_kept : (place : ℕ) (p : PartState) (k : Known) (events : List Event) → IsGuardedFrom p k events → break_from place k events ≡ None
+pub guarded_kept : (number : ℕ) (p : PartState) (k : Known) (events : List Event) → IsGuardedFrom p k events → break_from number k events ≡ None
 unfolding IsGuardedFrom break_from
-guarded_kept place p k [] g = refl
-guarded_kept place p k (e ∷ events) g =
+guarded_kept number p k [] g = refl
+guarded_kept number p k (e ∷ events) g =
     rw (step_kept p k (step_of e) e refl g.1, break_from)
-    (guarded_kept (suc place) (state_after (guarded p k (step_of e)) (step_of e)) (known_after k e) events g.2)
+    (guarded_kept (suc number) (state_after (guarded p k (step_of e)) (step_of e)) (known_after k e) events g.2)
 
 -- each trap is a failure
 
@@ -206,22 +206,22 @@ opening_own : (spec : PartSpec) → (opening spec).spec.faults ≡ spec.faults
 unfolding opening
 opening_own spec = refl
 
-pub opening_behind : (spec : PartSpec) (faults : List Fault) → opening (with_behind faults spec) ≡ with_own ((opening spec).spec.faults ++ faults) (opening spec)
-opening_behind spec faults =
+pub opening_after : (spec : PartSpec) (faults : List Fault) → opening (with_after faults spec) ≡ with_own ((opening spec).spec.faults ++ faults) (opening spec)
+opening_after spec faults =
     opening_with (spec.faults ++ faults) spec ∙ ap (λ (own : List Fault). with_own (own ++ faults) (opening spec)) (sym (opening_own spec))
 
-pub fit_behind : (spec : PartSpec) (faults : List Fault) → IsFitSpec spec → IsFitSpec (with_behind faults spec)
-fit_behind spec faults h = record { text = h.text; initial = h.initial }
+pub fit_following : (spec : PartSpec) (faults : List Fault) → IsFitSpec spec → IsFitSpec (with_after faults spec)
+fit_following spec faults h = record { text = h.text; initial = h.initial }
 
 pub guarded_well : (spec : PartSpec) (journal : List Event) → IsFitSpec spec → IsGuardedRun spec journal → IsGuardedWell spec journal
 unfolding first_break
 guarded_well spec journal fits g =
     let traps : List Fault = traps_of spec journal in
     let with : IsRunWith (opening spec) (known_at_first spec) journal = guarded_run (opening spec) (known_at_first spec) journal g in
-    let e : opening (with_behind traps spec) ≡ with_own ((opening spec).spec.faults ++ traps) (opening spec) = opening_behind spec traps in
-    let run : IsRun (with_behind traps spec) journal = subst (λ (t : PartState). IsRunFrom t journal) (sym e) with.run in
+    let e : opening (with_after traps spec) ≡ with_own ((opening spec).spec.faults ++ traps) (opening spec) = opening_after spec traps in
+    let run : IsRun (with_after traps spec) journal = subst (λ (t : PartState). IsRunFrom t journal) (sym e) with.run in
     let failing : length traps ≤ failures_of journal = guarded_fails (opening spec) (known_at_first spec) journal g in
-    let few : failures_of journal ≤ spec.limit + 1 = (run_measured (with_behind traps spec) journal (fit_behind spec traps fits) run).few_failures in
+    let few : failures_of journal ≤ spec.limit + 1 = (run_measured (with_after traps spec) journal (fit_following spec traps fits) run).few_failures in
     record {
       run = run;
       state = ap (λ (t : PartState). state_from t journal) e ∙ with.state;
@@ -230,7 +230,7 @@ guarded_well spec journal fits g =
       few = omega arith;
     }
 
--- where no clause is broken there is no trap
+-- if no clause is broken, there is no trap
 
 pub step_free : (p : PartState) (k : Known) (s : Step) → broken k (event_of p s) ≡ [] → (guard p k s ≡ None) × (guarded p k s ≡ p)
 unfolding guarded
@@ -243,12 +243,12 @@ step_free p k (step.Burst context) h = (
   ap (λ (cs : List Clause). with_trap (trap_for cs (guard_trap context p k)) p) h,
 )
 
-pub first_kept : (place : ℕ) (k : Known) (e : Event) (events : List Event) → break_from place k (e ∷ events) ≡ None
-    → (broken k e ≡ []) × (break_from (suc place) (known_after k e) events ≡ None)
+pub first_kept : (number : ℕ) (k : Known) (e : Event) (events : List Event) → break_from number k (e ∷ events) ≡ None
+    → (broken k e ≡ []) × (break_from (suc number) (known_after k e) events ≡ None)
 unfolding break_from
-first_kept place k e events h = by_clauses (broken k e) refl
+first_kept number k e events h = by_clauses (broken k e) refl
   where
-    by_clauses : (cs : List Clause) → broken k e ≡ cs → (broken k e ≡ []) × (break_from (suc place) (known_after k e) events ≡ None)
+    by_clauses : (cs : List Clause) → broken k e ≡ cs → (broken k e ≡ []) × (break_from (suc number) (known_after k e) events ≡ None)
     by_clauses [] none = (none, rw (none, break_from) at h)
     by_clauses (c ∷ more) some = let no = rw (some, break_from) at h in absurd cc
 
@@ -256,15 +256,15 @@ pub record IsFree (p : PartState) (k : Known) (events : List Event) : Type 0 whe
   pub guarded : IsGuardedFrom p k events
   pub traps : traps_from p k events ≡ []
 
-pub free_from : (place : ℕ) (p : PartState) (k : Known) (events : List Event) → IsRunFrom p events → break_from place k events ≡ None
+pub free_from : (number : ℕ) (p : PartState) (k : Known) (events : List Event) → IsRunFrom p events → break_from number k events ≡ None
     → IsFree p k events
 unfolding IsGuardedFrom IsRunFrom traps_from
-free_from place p k [] r h = record { guarded = tt; traps = refl }
-free_from place p k (e ∷ events) r h =
-    let first = first_kept place k e events h in
+free_from number p k [] r h = record { guarded = tt; traps = refl }
+free_from number p k (e ∷ events) r h =
+    let first = first_kept number k e events h in
     let free = step_free p k (step_of e) (ap (broken k) r.1 ∙ first.0) in
     let more : IsFree (state_after p (step_of e)) (known_after k e) events =
-    free_from (suc place) (state_after p (step_of e)) (known_after k e) events r.2 first.1 in
+    free_from (suc number) (state_after p (step_of e)) (known_after k e) events r.2 first.1 in
     record {
       guarded = (
         ap (λ (q : PartState). enabled q (step_of e)) free.1 ∙ r.0,

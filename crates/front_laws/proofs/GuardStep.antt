@@ -30,7 +30,7 @@ use Rattle.part_defs.specs.Runs.{event_of}
 use Rattle.part_defs.specs.State.{PartState}
 use Rattle.part_defs.specs.Steps.{burst_stepped, served_number, stepped}
 use Rattle.promise_defs.specs.Contract.{Deed, Known, acts, broken, crossing_deeds}
-use Rattle.front_laws.specs.Fronts.{IsCutShort, put_behind}
+use Rattle.front_laws.specs.Fronts.{IsCutShort, put_after}
 use Rattle.front_laws.specs.Guarded.{IsFirstWrong, IsStopped, acts_in, broken_by}
 use Rattle.front_laws.proofs.Deeds.{first_wrong, front_broken, some_broken}
 use Rattle.front_laws.proofs.Ordered.{burst_rises, own_burst}
@@ -59,7 +59,7 @@ no_crossing context (ends.Kcall number) p h = let no : true ≡ false = h in abs
 no_crossing context ends.Pause p h = split (is_last context p) (λ e. rw e refl) (λ e. rw e refl)
 no_crossing context (ends.Reply status) p h = let no : true ≡ false = h in absurd cc
 
--- a step of a burst by what runs in its context
+-- a step of a burst, by what runs in its context
 
 abbrev pub own_faults : PartState → List Fault
 own_faults p = faults_of_burst (p.bursts + 1) p.spec.faults
@@ -76,7 +76,7 @@ event_is context p = refl
 abbrev pub step_deeds : ℕ → PartState → DomainBurst → List Deed
 step_deeds context p b = map acts b.acts ++ deeds_across (crossed context p b)
 
--- where nothing runs there is no deed
+-- if nothing runs, there is no deed
 pub none_breaks : (context : ℕ) (p : PartState) (k : Known) → context_of context p.domain.contexts ≡ None
     → broken k (event_of p (step.Burst context)) ≡ []
 none_breaks context p k none =
@@ -145,19 +145,19 @@ stopped_with context p k x clause more runs breaks =
     ap (λ (j : ℕ). turns_in p j (context_of context p.domain.contexts)) en ∙ ap (turns_in p n) runs in
     let reached : turns_before n p.domain.entries (own_faults p) (machine_of x p.domain) < turns_of p.domain.entries (own_faults p) (machine_of x p.domain) =
     deed_reached n p.domain.entries (own_faults p) (machine_of x p.domain) has in
-    let b : Burst = burst p.domain.entries (put_behind f (own_faults p)) (machine_of x p.domain) in
+    let b : Burst = burst p.domain.entries (put_after f (own_faults p)) (machine_of x p.domain) in
     let cut : IsCutShort f.after (acts_within f.after p.domain.entries (own_faults p) (machine_of x p.domain)) b =
     burst_cut f p.domain.entries (own_faults p) (machine_of x p.domain) refl (burst_rises (p.bursts + 1) p.spec.faults) (omega arith) in
     let kept : b.acts ≡ take n made.acts =
     cut.acts_of_turns ∙ ap (λ (t : ℕ). acts_within t p.domain.entries (own_faults p) (machine_of x p.domain)) ea
     ∙ deed_kept n p.domain.entries (own_faults p) (machine_of x p.domain) has in
-    let behind : own_faults q ≡ put_behind f (own_faults p) =
+    let rest_after : own_faults q ≡ put_after f (own_faults p) =
     own_burst (p.bursts + 1) p.spec.faults f (eq-eqb (p.bursts + 1) (p.bursts + 1) refl) in
     let d' : DomainBurst = after_burst context x b p.domain in
     let made' : event_of q (step.Burst context) ≡ (burst_step context q d').event =
     event_is context q
-    ∙ ap (λ (faults : List Fault). (burst_step context q (burst_by context faults p.domain (context_of context p.domain.contexts))).event) behind
-    ∙ ap (λ (o : Option Context). (burst_step context q (burst_by context (put_behind f (own_faults p)) p.domain o)).event) runs in
+    ∙ ap (λ (faults : List Fault). (burst_step context q (burst_by context faults p.domain (context_of context p.domain.contexts))).event) rest_after
+    ∙ ap (λ (o : Option Context). (burst_step context q (burst_by context (put_after f (own_faults p)) p.domain o)).event) runs in
     let acts_kept : take n made.acts ≡ take (deeds_before call k (deeds_in e)) (acts_in e) =
     ap (λ (j : ℕ). take j made.acts) (sym en) ∙ ap (λ (y : Event). take (deeds_before call k (deeds_in e)) (acts_in y)) (sym same) in
     let event_made : event_of q (step.Burst context) ≡ stop_event context p f.after (take n made.acts) =
@@ -183,7 +183,7 @@ stopped context p k clause more breaks = by_context (context_of context p.domain
     by_context (Some x) runs = stopped_with context p k x clause more runs breaks
     by_context None none = let no : [] ≡ clause ∷ more = sym (none_breaks context p k none) ∙ breaks in absurd cc
 
--- the deed that the trap keeps from being done
+-- the deed that the trap prevents
 pub first_wrong_deed : (context : ℕ) (p : PartState) (k : Known) (clause : Clause) (more : List Clause)
     → broken k (event_of p (step.Burst context)) ≡ clause ∷ more
     → IsFirstWrong (served_number context p) k (deeds_in (event_of p (step.Burst context)))

@@ -7,7 +7,7 @@ use Rattle.nook_data.specs.declared.scenario.PartSpec.{PartSpec}
 use Rattle.nook_data.specs.declared.scenario.Scenario.{Scenario}
 use Rattle.nook_data.specs.declared.steps.Event.{Event}
 use Rattle.nook_data.specs.declared.steps.Step.{Step}
-use Rattle.guard_defs.specs.Guard.{IsGuardedFrom, IsGuardedRun, guard, guarded, guarded_from, known_at_first, traps_of, with_behind, with_own}
+use Rattle.guard_defs.specs.Guard.{IsGuardedFrom, IsGuardedRun, guard, guarded, guarded_from, known_at_first, traps_of, with_after, with_own}
 use Rattle.guard_defs.specs.GuardedRuns.{guarded_runs, guarded_seat, guarded_taken, known_of}
 use Rattle.part_defs.specs.Runs.{event_of, state_after, step_of}
 use Rattle.part_defs.specs.State.{PartState}
@@ -19,13 +19,13 @@ use Rattle.run_defs.specs.Simulation.{Choice, RunningPart, Simulation, begins, c
 use Rattle.run_laws.proofs.Choices.{IsGood, choices_good}
 use Rattle.front_laws.specs.Guarded.{guarded_at, known_at}
 use Rattle.front_laws.specs.GuardedParts.{IsGuardedPart}
-use Rattle.front_laws.proofs.GuardRun.{IsRunWith, IsTrapOf, guarded_run, opening_behind, trap_is}
+use Rattle.front_laws.proofs.GuardRun.{IsRunWith, IsTrapOf, guarded_run, opening_after, trap_is}
 use Rattle.front_laws.proofs.GuardedRuns.{At, IsNextSeat, IsOf, guarded_on, guarded_taken_is, more_of, next_by, trap_more}
 use Rattle.front_laws.proofs.Owned.{order_of, pick_of}
 use Rattle.front_laws.proofs.Same.{enabled_same}
 use Rattle.front_laws.proofs.WholeRuns.{begins_at}
 
--- one guarded step more
+-- one more guarded step
 
 enabled_by : (p q : PartState) (s : Step) (o : Option Fault) → IsTrapOf p s o q → enabled p s ≡ true → enabled q s ≡ true
 enabled_by p q s None h may = ap (λ (r : PartState). enabled r s) h ∙ may
@@ -58,7 +58,7 @@ unfolding guarded_from
 guarded_state_more p k [] s = ap (λ (x : Step). state_after (guarded p k x) x) (step_named (guarded p k s) s)
 guarded_state_more p k (e ∷ events) s = guarded_state_more (state_after (guarded p k (step_of e)) (step_of e)) (known_after k e) events s
 
--- what is kept of a part along a guarded run of its scenario
+-- what a guarded run of a scenario keeps of a part
 
 pub record Follows (spec : PartSpec) (seat : RunningPart) : Type 0 where
   pub run : IsGuardedRun spec seat.run.journal
@@ -93,7 +93,7 @@ follows_step spec seat s may f =
           (trap_is seat.run.state (known_of seat) s)) f.own;
     }
 
--- a choice may be taken
+-- the choice may be taken
 
 good_at : (s : Simulation) (choices : List Choice) (i : ℕ) (c : Choice) → AllByRecursion (IsGood s.parts s.threads) choices
     → slice_get choices i ≡ Some c → IsGood s.parts s.threads c
@@ -112,55 +112,55 @@ may_take s choices i a = by_pick (slice_get choices i) refl
     by_pick None h = tt
     by_pick (Some c) h = good_at s choices i c a h
 
-pub follows_next : (spec : PartSpec) (s : Simulation) (place : ℕ) (seat next : RunningPart) (o : Option Choice) → At s place seat → MayTake s o
-    → IsNextSeat seat o place next → Follows spec seat → Follows spec next
-follows_next spec s place seat next None at may e f = subst (Follows spec) (sym e) f
-follows_next spec s place seat next (Some c) at may (inl e) f = subst (Follows spec) (sym e.1) f
-follows_next spec s place seat next (Some c) at may (inr e) f =
+pub follows_next : (spec : PartSpec) (s : Simulation) (index : ℕ) (seat next : RunningPart) (o : Option Choice) → At s index seat → MayTake s o
+    → IsNextSeat seat o index next → Follows spec seat → Follows spec next
+follows_next spec s index seat next None at may e f = subst (Follows spec) (sym e) f
+follows_next spec s index seat next (Some c) at may (inl e) f = subst (Follows spec) (sym e.1) f
+follows_next spec s index seat next (Some c) at may (inr e) f =
     let one : may.seat ≡ seat = same_inside (sym may.at ∙ ap (slice_get s.parts) e.0 ∙ at) in
     subst (Follows spec) (sym e.1)
     (follows_step spec seat c.step (ap (λ (x : RunningPart). enabled x.run.state c.step) (sym one) ∙ may.may) f)
 
 abbrev HasFollowed : PartSpec → Simulation → ℕ → Type 0
-HasFollowed spec t place = (later : RunningPart) × At t place later × Follows spec later
+HasFollowed spec t index = (later : RunningPart) × At t index later × Follows spec later
 
-followed : (spec : PartSpec) (n : ℕ) (s : Simulation) (place : ℕ) (seat : RunningPart) → At s place seat → Follows spec seat
-    → HasFollowed spec (guarded_runs n s) place
+followed : (spec : PartSpec) (n : ℕ) (s : Simulation) (index : ℕ) (seat : RunningPart) → At s index seat → Follows spec seat
+    → HasFollowed spec (guarded_runs n s) index
 unfolding guarded_runs
-followed spec zero s place seat at f = (seat, at, f)
-followed spec (suc more) s place seat at f =
-    by_choices (choices_of s) (choices_good s) (λ x next there follows. followed spec more x place next there follows)
+followed spec zero s index seat at f = (seat, at, f)
+followed spec (suc more) s index seat at f =
+    by_choices (choices_of s) (choices_good s) (λ x next there follows. followed spec more x index next there follows)
   where
     by_choices : (choices : List Choice) → AllByRecursion (IsGood s.parts s.threads) choices
-        → ((x : Simulation) (next : RunningPart) → At x place next → Follows spec next → HasFollowed spec (guarded_runs more x) place)
-        → HasFollowed spec (guarded_on more s choices) place
+        → ((x : Simulation) (next : RunningPart) → At x index next → Follows spec next → HasFollowed spec (guarded_runs more x) index)
+        → HasFollowed spec (guarded_on more s choices) index
     by_choices [] good again = (seat, at, f)
     by_choices (c ∷ choices) good again =
         let o : Option Choice = pick_of s (c ∷ choices) in
-        let next = next_by s place seat (order_of s (c ∷ choices)) o at in
-        let there : At (guarded_taken s (c ∷ choices)) place next.0 =
-        subst (λ (t : Simulation). At t place next.0) (sym (guarded_taken_is s (c ∷ choices))) next.1 in
+        let next = next_by s index seat (order_of s (c ∷ choices)) o at in
+        let there : At (guarded_taken s (c ∷ choices)) index next.0 =
+        subst (λ (t : Simulation). At t index next.0) (sym (guarded_taken_is s (c ∷ choices))) next.1 in
         again (guarded_taken s (c ∷ choices)) next.0 there
-        (follows_next spec s place seat next.0 o at (may_take s (c ∷ choices) _ good) next.2 f)
+        (follows_next spec s index seat next.0 o at (may_take s (c ∷ choices) _ good) next.2 f)
 
 pub opening_follows : (spec : PartSpec) → Follows spec (opening_part spec)
 unfolding IsGuardedFrom guarded_from opening
 opening_follows spec = record { run = tt; state = refl; own = refl }
 
 pub spec_with : (spec : PartSpec) (journal : List Event) → IsGuardedRun spec journal
-    → (guarded_at spec journal).spec ≡ with_behind (traps_of spec journal) spec
+    → (guarded_at spec journal).spec ≡ with_after (traps_of spec journal) spec
 spec_with spec journal run =
     let with : IsRunWith (opening spec) (known_at_first spec) journal = guarded_run (opening spec) (known_at_first spec) journal run in
     ap (λ (q : PartState). q.spec) (sym with.state)
     ∙ spec_from (with_own ((opening spec).spec.faults ++ traps_of spec journal) (opening spec)) journal
-    ∙ ap (λ (q : PartState). q.spec) (sym (opening_behind spec (traps_of spec journal)))
-    ∙ opening_spec (with_behind (traps_of spec journal) spec)
+    ∙ ap (λ (q : PartState). q.spec) (sym (opening_after spec (traps_of spec journal)))
+    ∙ opening_spec (with_after (traps_of spec journal) spec)
 
-pub guarded_part : (scenario : Scenario) (place : ℕ) (steps : ℕ) (spec : PartSpec) (seat : RunningPart)
-    → slice_get scenario.parts place ≡ Some spec → slice_get (guarded_runs steps (begins scenario)).parts place ≡ Some seat
+pub guarded_part : (scenario : Scenario) (index : ℕ) (steps : ℕ) (spec : PartSpec) (seat : RunningPart)
+    → slice_get scenario.parts index ≡ Some spec → slice_get (guarded_runs steps (begins scenario)).parts index ≡ Some seat
     → IsGuardedPart spec seat
-guarded_part scenario place steps spec seat at end =
-    let f = followed spec steps (begins scenario) place (opening_part spec) (begins_at scenario place spec at) (opening_follows spec) in
+guarded_part scenario index steps spec seat at end =
+    let f = followed spec steps (begins scenario) index (opening_part spec) (begins_at scenario index spec at) (opening_follows spec) in
     let one : f.0 ≡ seat = same_inside (sym f.1 ∙ end) in
     let g : Follows spec seat = subst (Follows spec) one f.2 in
     record {

@@ -25,28 +25,28 @@ use Rattle.part_defs.specs.State.{PartState}
 use Rattle.part_defs.specs.Steps.{served_number}
 use Rattle.promise_defs.specs.Contract.{Deed, Known, acts, broken}
 use Rattle.guard_defs.specs.Every.{turns_made}
-use Rattle.front_laws.specs.Fronts.{put_behind}
+use Rattle.front_laws.specs.Fronts.{put_after}
 use Rattle.front_laws.specs.Guarded.{broken_by}
 use Rattle.front_laws.specs.GuardedPast.{IsPastGuarded, StaysBefore, inserted}
 use Rattle.front_laws.proofs.Alike.{before_same, within_same}
 use Rattle.front_laws.proofs.Deeds.{IsSome, before_front, broken_some, some_broken}
 use Rattle.front_laws.proofs.GuardRun.{IsTrapOf, trap_is}
 use Rattle.front_laws.proofs.GuardStep.{crossed, deeds_across, event_is, has_deed, none_breaks, own_faults, step_deeds}
-use Rattle.front_laws.proofs.Ordered.{behind_both, burst_rises, other_burst, own_burst}
+use Rattle.front_laws.proofs.Ordered.{after_both, burst_rises, other_burst, own_burst}
 use Rattle.front_laws.proofs.Past.{burst_acts_front, burst_past}
 use Rattle.front_laws.proofs.Reaching.{burst_act_made, burst_crossing_last, burst_turns_cut}
 use Rattle.front_laws.proofs.Same.{IsSameBurst, burst_same, event_same}
-use Rattle.front_laws.proofs.Unreached.{behind_same}
+use Rattle.front_laws.proofs.Unreached.{following_same}
 use Rattle.front_laws.proofs.Within.{HasDeed, deed_reached, is_crossing}
 
--- the deed and its turn, with a fault behind that turn
+-- the deed and its instruction, with a fault after that instruction
 
 module _ (f : Fault) (context : ℕ) (p : PartState) (k : Known) (x : Context) (own : List Fault) where
   abbrev pub made : Burst
   made = burst p.domain.entries own (machine_of x p.domain)
 
   abbrev pub struck : Burst
-  struck = burst p.domain.entries (put_behind f own) (machine_of x p.domain)
+  struck = burst p.domain.entries (put_after f own) (machine_of x p.domain)
 
   abbrev pub deeds : Burst → List Deed
   deeds b = step_deeds context p (after_burst context x b p.domain)
@@ -54,15 +54,15 @@ module _ (f : Fault) (context : ℕ) (p : PartState) (k : Known) (x : Context) (
   abbrev pub call : ℕ
   call = served_number context p
 
-  abbrev pub place : ℕ
-  place = deeds_before call k (deeds made)
+  abbrev pub index : ℕ
+  index = deeds_before call k (deeds made)
 
-  -- what comes to the same place and breaks a clause too
+  -- a burst that reaches the same position and breaks a clause too
   pub record IsAsWrong (b : Burst) : Type 0 where
-    pub before : deeds_before call k (deeds b) ≡ place
+    pub before : deeds_before call k (deeds b) ≡ index
     pub wrong : IsSome (broken_by call k (deeds b))
 
-  same_wrong : place < length (deeds made) → (b : Burst) → b ≡ made → IsAsWrong b
+  same_wrong : index < length (deeds made) → (b : Burst) → b ≡ made → IsAsWrong b
   same_wrong less b e = subst IsAsWrong (sym e) (record { before = refl; wrong = broken_some call k (deeds made) less })
 
   parts_of : (n : ℕ) (done : List Act) (rest : List Deed)
@@ -72,30 +72,30 @@ module _ (f : Fault) (context : ℕ) (p : PartState) (k : Known) (x : Context) (
       ∙ ap (λ (xs : List Deed). xs ++ rest) (map-append acts (take n done) (drop n done))
       ∙ append_assoc (map acts (take n done)) (map acts (drop n done)) rest
 
-  early_wrong : place < length made.acts → (b : Burst) (later : List Act) → b.acts ≡ take (suc place) made.acts ++ later → IsAsWrong b
+  early_wrong : index < length made.acts → (b : Burst) (later : List Act) → b.acts ≡ take (suc index) made.acts ++ later → IsAsWrong b
   early_wrong less b later e =
-      let front : List Deed = map acts (take (suc place) made.acts) in
-      let rest : List Deed = map acts (drop (suc place) made.acts) ++ deeds_across (crossed context p (after_burst context x made p.domain)) in
+      let front : List Deed = map acts (take (suc index) made.acts) in
+      let rest : List Deed = map acts (drop (suc index) made.acts) ++ deeds_across (crossed context p (after_burst context x made p.domain)) in
       let rest' : List Deed = map acts later ++ deeds_across (crossed context p (after_burst context x b p.domain)) in
       let whole : deeds made ≡ front ++ rest =
-      parts_of (suc place) made.acts (deeds_across (crossed context p (after_burst context x made p.domain))) in
+      parts_of (suc index) made.acts (deeds_across (crossed context p (after_burst context x made p.domain))) in
       let whole' : deeds b ≡ front ++ rest' =
       ap (λ (xs : List Act). map acts xs ++ deeds_across (crossed context p (after_burst context x b p.domain))) e
       ∙ ap (λ (xs : List Deed). xs ++ deeds_across (crossed context p (after_burst context x b p.domain)))
-      (map-append acts (take (suc place) made.acts) later)
+      (map-append acts (take (suc index) made.acts) later)
       ∙ append_assoc front (map acts later) (deeds_across (crossed context p (after_burst context x b p.domain))) in
-      let few : length front ≡ suc place =
-      length-map (take (suc place) made.acts) acts ∙ length-take-le (suc place) made.acts less in
-      let here : deeds_before call k (front ++ rest) ≡ place = ap (deeds_before call k) (sym whole) in
+      let few : length front ≡ suc index =
+      length-map (take (suc index) made.acts) acts ∙ length-take-le (suc index) made.acts less in
+      let here : deeds_before call k (front ++ rest) ≡ index = ap (deeds_before call k) (sym whole) in
       let same : deeds_before call k (front ++ rest') ≡ deeds_before call k (front ++ rest) =
-      before_front call k front rest rest' (subst (λ (n : ℕ). deeds_before call k (front ++ rest) < n) (sym few) (low (deeds_before call k (front ++ rest)) place here)) in
-      let before : deeds_before call k (deeds b) ≡ place = ap (deeds_before call k) whole' ∙ same ∙ here in
+      before_front call k front rest rest' (subst (λ (n : ℕ). deeds_before call k (front ++ rest) < n) (sym few) (low (deeds_before call k (front ++ rest)) index here)) in
+      let before : deeds_before call k (deeds b) ≡ index = ap (deeds_before call k) whole' ∙ same ∙ here in
       let sum : length (front ++ rest') ≡ length front + length rest' = length-append front rest' in
       let long : length (deeds b) ≡ length (front ++ rest') = ap length whole' in
       record {
         before = before;
         wrong = broken_some call k (deeds b)
-            (under (deeds_before call k (deeds b)) (length (deeds b)) (length (front ++ rest')) (length front) (length rest') place before long sum few);
+            (under (deeds_before call k (deeds b)) (length (deeds b)) (length (front ++ rest')) (length front) (length rest') index before long sum few);
       }
     where
       low : (a b : ℕ) → a ≡ b → a < suc b
@@ -104,24 +104,24 @@ module _ (f : Fault) (context : ℕ) (p : PartState) (k : Known) (x : Context) (
       under : (d l w a r n : ℕ) → d ≡ n → l ≡ w → w ≡ a + r → a ≡ suc n → d < l
       under d l w a r n e1 e2 e3 e4 = omega arith
 
-  pub still_wrong : place < length (deeds made) → turns_before place p.domain.entries own (machine_of x p.domain) < f.after → IsAsWrong struck
+  pub still_wrong : index < length (deeds made) → turns_before index p.domain.entries own (machine_of x p.domain) < f.after → IsAsWrong struck
   still_wrong less early = split (nat_le (turns_of p.domain.entries own (machine_of x p.domain)) f.after)
       (λ past. same_wrong less struck (burst_past f p.domain.entries own (machine_of x p.domain) (leb-true _ f.after past)))
       (λ reached. let far : f.after < turns_of p.domain.entries own (machine_of x p.domain) = leb-false _ f.after reached in
-      split (nat_lt place (length made.acts))
-      (λ act. let low : place < length made.acts = ltb-true place (length made.acts) act in
-      let begun = burst_acts_front (suc (turns_before place p.domain.entries own (machine_of x p.domain))) p.domain.entries (put_behind f own) (machine_of x p.domain) in
+      split (nat_lt index (length made.acts))
+      (λ act. let low : index < length made.acts = ltb-true index (length made.acts) act in
+      let begun = burst_acts_front (suc (turns_before index p.domain.entries own (machine_of x p.domain))) p.domain.entries (put_after f own) (machine_of x p.domain) in
       early_wrong low struck begun.0
       (begun.1 ∙ ap (λ (xs : List Act). xs ++ begun.0)
-      (within_same f (suc (turns_before place p.domain.entries own (machine_of x p.domain))) p.domain.entries own (machine_of x p.domain) early
-      ∙ burst_act_made place p.domain.entries own (machine_of x p.domain) low)))
-      (λ none. let low : length made.acts ≤ place = ltb-false place (length made.acts) none in
-      let last : suc (turns_before place p.domain.entries own (machine_of x p.domain)) ≡ turns_of p.domain.entries own (machine_of x p.domain) =
-      burst_crossing_last place p.domain.entries own (machine_of x p.domain) low
-      (crosses low (has_deed context p (after_burst context x made p.domain) made place refl refl less)) in
+      (within_same f (suc (turns_before index p.domain.entries own (machine_of x p.domain))) p.domain.entries own (machine_of x p.domain) early
+      ∙ burst_act_made index p.domain.entries own (machine_of x p.domain) low)))
+      (λ none. let low : length made.acts ≤ index = ltb-false index (length made.acts) none in
+      let last : suc (turns_before index p.domain.entries own (machine_of x p.domain)) ≡ turns_of p.domain.entries own (machine_of x p.domain) =
+      burst_crossing_last index p.domain.entries own (machine_of x p.domain) low
+      (crosses low (has_deed context p (after_burst context x made p.domain) made index refl refl less)) in
       absurd (omega arith)))
     where
-      crosses : length made.acts ≤ place → HasDeed place made → is_crossing made.ending ≡ true
+      crosses : length made.acts ≤ index → HasDeed index made → is_crossing made.ending ≡ true
       crosses low (inl act) = absurd (omega arith)
       crosses low (inr is) = is
 
@@ -166,8 +166,8 @@ module _ (faults : List Fault) (p : PartState) (k : Known) (context : ℕ) where
   free_guard h none =
       ap (λ (cs : List Clause). trap_for cs (guard_trap context with' k)) (ap (broken k) (event_same faults p s' h) ∙ none)
 
-  -- the burst breaks a clause, and the fault stands behind the guard's trap
-  module _ (f : Fault) (x : Context) (e : own_faults with' ≡ put_behind f (own_faults p)) (runs : context_of context p.domain.contexts ≡ Some x)
+  -- the burst breaks a clause, and the fault comes after the guard's trap
+  module _ (f : Fault) (x : Context) (e : own_faults with' ≡ put_after f (own_faults p)) (runs : context_of context p.domain.contexts ≡ Some x)
       (clause : Clause) (more : List Clause) (breaks : broken k (event_of p s') ≡ clause ∷ more)
       (early : (guard_trap context p k).after < f.after) where
     event_made : event_of p s' ≡ (burst_step context p (after_burst context x (made f context p k x (own_faults p)) p.domain)).event
@@ -178,22 +178,22 @@ module _ (faults : List Fault) (p : PartState) (k : Known) (context : ℕ) where
     event_struck =
         event_is context with'
         ∙ ap (λ (xs : List Fault). (burst_step context with' (burst_by context xs p.domain (context_of context p.domain.contexts))).event) e
-        ∙ ap (λ (o : Option Context). (burst_step context with' (burst_by context (put_behind f (own_faults p)) p.domain o)).event) runs
+        ∙ ap (λ (o : Option Context). (burst_step context with' (burst_by context (put_after f (own_faults p)) p.domain o)).event) runs
         ∙ ap (λ (t : Stepped). t.event) (burst_same faults context p (after_burst context x (struck f context p k x (own_faults p)) p.domain))
 
     deed : ℕ
-    deed = place f context p k x (own_faults p)
+    deed = index f context p k x (own_faults p)
 
-    deed_is : deeds_before (served_number context p) k (deeds_in (event_of p s')) ≡ place f context p k x (own_faults p)
+    deed_is : deeds_before (served_number context p) k (deeds_in (event_of p s')) ≡ index f context p k x (own_faults p)
     deed_is = ap (λ (y : Event). deeds_before (served_number context p) k (deeds_in y)) event_made
 
     after_is : (guard_trap context p k).after
-        ≡ turns_before (place f context p k x (own_faults p)) p.domain.entries (own_faults p) (machine_of x p.domain)
+        ≡ turns_before (index f context p k x (own_faults p)) p.domain.entries (own_faults p) (machine_of x p.domain)
     after_is =
         ap (λ (n : ℕ). turns_in p n (context_of context p.domain.contexts)) deed_is
-        ∙ ap (turns_in p (place f context p k x (own_faults p))) runs
+        ∙ ap (turns_in p (index f context p k x (own_faults p))) runs
 
-    less : place f context p k x (own_faults p) < length (deeds f context p k x (own_faults p) (made f context p k x (own_faults p)))
+    less : index f context p k x (own_faults p) < length (deeds f context p k x (own_faults p) (made f context p k x (own_faults p)))
     less = some_broken (served_number context p) k (deeds f context p k x (own_faults p) (made f context p k x (own_faults p))) clause more
         (ap (broken k) (sym event_made) ∙ breaks)
 
@@ -207,36 +207,36 @@ module _ (faults : List Fault) (p : PartState) (k : Known) (context : ℕ) where
         ≡ (guard_trap context p k).after =
         ap (λ (y : Event). turns_in with' (deeds_before (served_number context p) k (deeds_in y)) (context_of context p.domain.contexts)) event_struck
         ∙ ap (λ (n : ℕ). turns_in with' n (context_of context p.domain.contexts)) wrong.before
-        ∙ ap (turns_in with' (place f context p k x (own_faults p))) runs
-        ∙ ap (λ (xs : List Fault). turns_before (place f context p k x (own_faults p)) p.domain.entries xs (machine_of x p.domain)) e
-        ∙ before_same f (place f context p k x (own_faults p)) p.domain.entries (own_faults p) (machine_of x p.domain)
+        ∙ ap (turns_in with' (index f context p k x (own_faults p))) runs
+        ∙ ap (λ (xs : List Fault). turns_before (index f context p k x (own_faults p)) p.domain.entries xs (machine_of x p.domain)) e
+        ∙ before_same f (index f context p k x (own_faults p)) p.domain.entries (own_faults p) (machine_of x p.domain)
         (subst (λ (n : ℕ). n < f.after) after_is early)
         ∙ sym after_is in
         ap (λ (n : ℕ). trap_for (broken k (event_of with' s')) (trap_at p n)) after
         ∙ ap (λ (y : Event). trap_for (broken k y) (guard_trap context p k)) event_struck
         ∙ some_trap _ (guard_trap context p k) wrong.wrong
 
-    -- the burst with the trap does not come to the fault
+    -- the burst with the trap does not reach the fault
     turns_few : turns_made (with_own (p.spec.faults ++ guard_trap context p k ∷ []) p) (context_of context p.domain.contexts) ≤ f.after
     turns_few =
         let t : Fault = guard_trap context p k in
         let q : PartState = with_own (p.spec.faults ++ t ∷ []) p in
-        let behind : own_faults q ≡ put_behind t (own_faults p) =
+        let rest_after : own_faults q ≡ put_after t (own_faults p) =
         own_burst (p.bursts + 1) p.spec.faults t (eq-eqb (p.bursts + 1) (p.bursts + 1) refl) in
         let has = has_deed context p (after_burst context x (made f context p k x (own_faults p)) p.domain) (made f context p k x (own_faults p))
-        (place f context p k x (own_faults p)) refl refl less in
-        let reached = deed_reached (place f context p k x (own_faults p)) p.domain.entries (own_faults p) (machine_of x p.domain) has in
-        let cut : turns_of p.domain.entries (put_behind t (own_faults p)) (machine_of x p.domain) ≡ t.after =
+        (index f context p k x (own_faults p)) refl refl less in
+        let reached = deed_reached (index f context p k x (own_faults p)) p.domain.entries (own_faults p) (machine_of x p.domain) has in
+        let cut : turns_of p.domain.entries (put_after t (own_faults p)) (machine_of x p.domain) ≡ t.after =
         burst_turns_cut t p.domain.entries (own_faults p) (machine_of x p.domain) refl (burst_rises (p.bursts + 1) p.spec.faults)
         (subst (λ (n : ℕ). n < turns_of p.domain.entries (own_faults p) (machine_of x p.domain)) (sym after_is) reached) in
         let all : turns_made q (context_of context p.domain.contexts) ≡ t.after =
-        ap (turns_made q) runs ∙ ap (λ (xs : List Fault). turns_of p.domain.entries xs (machine_of x p.domain)) behind ∙ cut in
+        ap (turns_made q) runs ∙ ap (λ (xs : List Fault). turns_of p.domain.entries xs (machine_of x p.domain)) rest_after ∙ cut in
         below (turns_made q (context_of context p.domain.contexts)) t.after all early
       where
         below : (a b : ℕ) → a ≡ b → b < f.after → a ≤ f.after
         below a b e h = omega arith
 
--- ---- a step under the guard, with a fault behind the part's own
+-- ---- a step under the guard, with a fault after the part's own
 
 -- faults of earlier bursts
 abbrev pub AreEarlier : ℕ → List Fault → Type 0
@@ -267,7 +267,7 @@ inserted_more count f faults more h =
     ∙ ap (λ (xs : List Fault). xs ++ (f ∷ (drop count faults ++ more))) (sym (take-append-le count faults more h))
     ∙ ap (λ (xs : List Fault). take count (faults ++ more) ++ f ∷ xs) (sym (drop-append-le count faults more h))
 
--- the part that takes the step is the one without the fault, but for it, and makes the same burst
+-- the part that takes the step is the one without the fault, with the fault added, and does the same burst
 pub record IsStruckStep (count : ℕ) (f : Fault) (p : PartState) (k : Known) (s : Step) : Type 0 where
   pub part : guarded (with_own (inserted count f p.spec.faults) p) k s
       ≡ with_own (inserted count f (guarded p k s).spec.faults) (guarded p k s)
@@ -303,7 +303,7 @@ module _ (count : ℕ) (f : Fault) (p : PartState) (k : Known) (s : Step) (room 
             (subst (λ (xs : List Fault). IsSameBurst xs q s) faults h);
       }
 
--- of a burst of another number
+-- the fault belongs to another burst
 other_struck : (count : ℕ) (f : Fault) (p : PartState) (k : Known) (context : ℕ) → count ≤ length p.spec.faults
     → own_faults (with_own (inserted count f p.spec.faults) p) ≡ own_faults p → IsStruckStep count f p k (step.Burst context)
 other_struck count f p k context room e = by_trap (guard p k (step.Burst context)) refl (trap_is p k (step.Burst context))
@@ -314,7 +314,7 @@ other_struck count f p k context room e = by_trap (guard p k (step.Burst context
         let n : ℕ = p.bursts + 1 in
         let here : (t.burst == n) ≡ true = eq-eqb t.burst n h.0 in
         ap (λ (xs : List Fault). domain_burst context xs p.domain)
-        (own_burst n (inserted count f p.spec.faults) t here ∙ ap (put_behind t) e ∙ sym (own_burst n p.spec.faults t here))
+        (own_burst n (inserted count f p.spec.faults) t here ∙ ap (put_after t) e ∙ sym (own_burst n p.spec.faults t here))
 
     by_trap : (o : Option Fault) → guard p k (step.Burst context) ≡ o
         → IsTrapOf p (step.Burst context) (guard p k (step.Burst context)) (guarded p k (step.Burst context))
@@ -324,9 +324,9 @@ other_struck count f p k context room e = by_trap (guard p k (step.Burst context
         (same_with o (guarded p k (step.Burst context))
         (subst (λ (x : Option Fault). IsTrapOf p (step.Burst context) x (guarded p k (step.Burst context))) is h))
 
--- of the burst of its number
+-- the fault belongs to this burst
 own_struck : (count : ℕ) (f : Fault) (p : PartState) (k : Known) (context : ℕ) → count ≤ length p.spec.faults
-    → own_faults (with_own (inserted count f p.spec.faults) p) ≡ put_behind f (own_faults p)
+    → own_faults (with_own (inserted count f p.spec.faults) p) ≡ put_after f (own_faults p)
     → StaysBefore f p context (guard p k (step.Burst context)) → IsStruckStep count f p k (step.Burst context)
 own_struck count f p k context room e past = by_clauses (broken k (event_of p (step.Burst context))) refl
   where
@@ -335,7 +335,7 @@ own_struck count f p k context room e past = by_clauses (broken k (event_of p (s
         let is : guard p k (step.Burst context) ≡ None = ap (λ (cs : List Clause). trap_for cs (guard_trap context p k)) none in
         let few : turns_made p (context_of context p.domain.contexts) ≤ f.after = subst (StaysBefore f p context) is past in
         let same : IsSameBurst (inserted count f p.spec.faults) p (step.Burst context) =
-        ap (λ (xs : List Fault). domain_burst context xs p.domain) e ∙ behind_same f context p few in
+        ap (λ (xs : List Fault). domain_burst context xs p.domain) e ∙ following_same f context p few in
         struck_by count f p k (step.Burst context) room None is (free_guard (inserted count f p.spec.faults) p k context same none) same
 
     cut : (clause : Clause) (more : List Clause) → broken k (event_of p (step.Burst context)) ≡ clause ∷ more
@@ -350,13 +350,13 @@ own_struck count f p k context room e past = by_clauses (broken k (event_of p (s
         let here : (t.burst == n) ≡ true = eq-eqb n n refl in
         let few : turns_made q (context_of context p.domain.contexts) ≤ f.after =
         turns_few (inserted count f p.spec.faults) p k context f x e runs clause more some early in
-        let faults : faults_of_burst n (inserted count f p.spec.faults ++ t ∷ []) ≡ put_behind f (faults_of_burst n (p.spec.faults ++ t ∷ [])) =
-        own_burst n (inserted count f p.spec.faults) t here ∙ ap (put_behind t) e
-        ∙ behind_both t f (own_faults p) early
-        ∙ ap (put_behind f) (sym (own_burst n p.spec.faults t here)) in
+        let faults : faults_of_burst n (inserted count f p.spec.faults ++ t ∷ []) ≡ put_after f (faults_of_burst n (p.spec.faults ++ t ∷ [])) =
+        own_burst n (inserted count f p.spec.faults) t here ∙ ap (put_after t) e
+        ∙ after_both t f (own_faults p) early
+        ∙ ap (put_after f) (sym (own_burst n p.spec.faults t here)) in
         struck_by count f p k (step.Burst context) room (Some t) is
         (struck_guard (inserted count f p.spec.faults) p k context f x e runs clause more some early)
-        (ap (λ (xs : List Fault). domain_burst context xs p.domain) faults ∙ behind_same f context q few)
+        (ap (λ (xs : List Fault). domain_burst context xs p.domain) faults ∙ following_same f context q few)
 
     by_clauses : (cs : List Clause) → broken k (event_of p (step.Burst context)) ≡ cs → IsStruckStep count f p k (step.Burst context)
     by_clauses [] none = free none
@@ -372,7 +372,7 @@ struck_step count f p k (step.Arrive frame) room earlier past = record { part = 
 struck_step count f p k (step.Burst context) room earlier past = split (f.burst == (p.bursts + 1))
     (λ own. own_struck count f p k context room
     (inserted_faults count f p.bursts p.spec.faults earlier ∙ own_burst (p.bursts + 1) (take count p.spec.faults) f own
-    ∙ ap (put_behind f) (sym (own_part count p.bursts p.spec.faults earlier)))
+    ∙ ap (put_after f) (sym (own_part count p.bursts p.spec.faults earlier)))
     (past (sym (eqb-true f.burst (p.bursts + 1) own))))
     (λ other. other_struck count f p k context room
     (inserted_faults count f p.bursts p.spec.faults earlier ∙ other_burst (p.bursts + 1) (take count p.spec.faults) f other

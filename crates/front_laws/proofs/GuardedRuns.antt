@@ -12,7 +12,7 @@ use Rattle.part_defs.specs.Runs.{state_after}
 use Rattle.part_defs.specs.State.{PartState}
 use Rattle.part_defs.specs.Steps.{opening}
 use Rattle.part_laws.proofs.DeviceStays.{spec_after}
-use Rattle.part_laws.proofs.Places.{get_set_other, get_set_same}
+use Rattle.part_laws.proofs.Indices.{get_set_other, get_set_same}
 use Rattle.run_defs.proofs.RunChanges.{taken_by}
 use Rattle.run_defs.specs.Schedules.{Order}
 use Rattle.run_defs.specs.Simulation.{Choice, IsScheduledRun, RunningPart, Simulation, begins, choices_of, opening_part}
@@ -22,7 +22,7 @@ use Rattle.front_laws.proofs.GuardRun.{AreLater, IsTrapOf, bursts_low, later_sam
 use Rattle.front_laws.proofs.Owned.{IsSameIn, choices_same, get_owning, go_on, opens_with, order_of, pick_of, seat_at, seat_same, stepped_seat}
 use Rattle.front_laws.proofs.Same.{IsSameBurst}
 
--- a choice under the guard, by what is picked
+-- a choice under the guard, by the one that is picked
 
 abbrev pub guarded_by : Simulation → Order → Option Choice → Simulation
 guarded_by s order None = record s { order = order }
@@ -43,12 +43,12 @@ guarded_runs_is more s = by_choices (choices_of s)
     by_choices : (choices : List Choice) → guarded_on more s choices ≡ guarded_on more s choices
     by_choices choices = refl
 
--- ---- the faults of a part grow at their end, by faults of later bursts
+-- ---- faults of later bursts are appended to those of a part
 
 abbrev pub At : Simulation → ℕ → RunningPart → Type 0
-At s place seat = slice_get s.parts place ≡ Some seat
+At s index seat = slice_get s.parts index ≡ Some seat
 
--- the later part has the same spec with more faults behind, all of bursts past the earlier part's
+-- the later part has the same spec with more faults appended, all of bursts after the earlier part's
 pub record HasMore (p q : PartState) : Type 0 where
   pub later : List Fault
   pub spec : q.spec ≡ record p.spec { faults = p.spec.faults ++ later }
@@ -95,23 +95,23 @@ trap_more p q s (Some f) h = record {
 -- the part after a choice under the guard
 
 abbrev pub IsNextSeat : RunningPart → Option Choice → ℕ → RunningPart → Type 0
-IsNextSeat seat None place next = next ≡ seat
-IsNextSeat seat (Some c) place next =
-    ((c.part ≡ place → ⊥) × (next ≡ seat)) ⊎ ((c.part ≡ place) × (next ≡ part_after c.step (guarded_seat c.step seat)))
+IsNextSeat seat None index next = next ≡ seat
+IsNextSeat seat (Some c) index next =
+    ((c.part ≡ index → ⊥) × (next ≡ seat)) ⊎ ((c.part ≡ index) × (next ≡ part_after c.step (guarded_seat c.step seat)))
 
 abbrev HasNext : Simulation → RunningPart → Option Choice → ℕ → Type 0
-HasNext t seat o place = (next : RunningPart) × At t place next × IsNextSeat seat o place next
+HasNext t seat o index = (next : RunningPart) × At t index next × IsNextSeat seat o index next
 
-pub next_by : (s : Simulation) (place : ℕ) (seat : RunningPart) (order : Order) (o : Option Choice) → At s place seat
-    → HasNext (guarded_by s order o) seat o place
-next_by s place seat order None at = (seat, at, refl)
-next_by s place seat order (Some c) at = by_part (slice_get s.parts c.part) refl
+pub next_by : (s : Simulation) (index : ℕ) (seat : RunningPart) (order : Order) (o : Option Choice) → At s index seat
+    → HasNext (guarded_by s order o) seat o index
+next_by s index seat order None at = (seat, at, refl)
+next_by s index seat order (Some c) at = by_part (slice_get s.parts c.part) refl
   where
     by_part : (x : Option RunningPart) → slice_get s.parts c.part ≡ x
-        → HasNext (stepped_by s order c (option_map (guarded_seat c.step) x)) seat (Some c) place
+        → HasNext (stepped_by s order c (option_map (guarded_seat c.step) x)) seat (Some c) index
     by_part None e = (seat, at, inl (λ same. none_is_some (sym e ∙ ap (slice_get s.parts) same ∙ at), refl))
     by_part (Some other) e =
-        elim (cases_eq c.part place) as (λ w. HasNext (stepped_by s order c (Some (guarded_seat c.step other))) seat (Some c) place) [
+        elim (cases_eq c.part index) as (λ w. HasNext (stepped_by s order c (Some (guarded_seat c.step other))) seat (Some c) index) [
           | inl same ↦
               let one : other ≡ seat = same_inside (sym e ∙ ap (slice_get s.parts) same ∙ at) in
               let new : RunningPart = part_after c.step (guarded_seat c.step other) in
@@ -122,39 +122,39 @@ next_by s place seat order (Some c) at = by_part (slice_get s.parts c.part) refl
               )
           | inr apart ↦ (
             seat,
-            get_set_other s.parts place c.part (part_after c.step (guarded_seat c.step other)) (λ h. apart (sym h)) ∙ at,
+            get_set_other s.parts index c.part (part_after c.step (guarded_seat c.step other)) (λ h. apart (sym h)) ∙ at,
             inl (apart, refl),
           )
         ]
 
-more_next : (seat next : RunningPart) (o : Option Choice) (place : ℕ) → IsNextSeat seat o place next → HasMore seat.run.state next.run.state
-more_next seat next None place e = subst (λ (x : RunningPart). HasMore seat.run.state x.run.state) (sym e) (more_same seat.run.state)
-more_next seat next (Some c) place (inl e) = subst (λ (x : RunningPart). HasMore seat.run.state x.run.state) (sym e.1) (more_same seat.run.state)
-more_next seat next (Some c) place (inr e) =
+more_next : (seat next : RunningPart) (o : Option Choice) (index : ℕ) → IsNextSeat seat o index next → HasMore seat.run.state next.run.state
+more_next seat next None index e = subst (λ (x : RunningPart). HasMore seat.run.state x.run.state) (sym e) (more_same seat.run.state)
+more_next seat next (Some c) index (inl e) = subst (λ (x : RunningPart). HasMore seat.run.state x.run.state) (sym e.1) (more_same seat.run.state)
+more_next seat next (Some c) index (inr e) =
     subst (λ (x : RunningPart). HasMore seat.run.state x.run.state) (sym e.1)
     (trap_more seat.run.state (guarded seat.run.state (known_of seat) c.step) c.step (guard seat.run.state (known_of seat) c.step)
     (trap_is seat.run.state (known_of seat) c.step))
 
 abbrev HasLater : Simulation → ℕ → RunningPart → Type 0
-HasLater t place seat = (later : RunningPart) × At t place later × HasMore seat.run.state later.run.state
+HasLater t index seat = (later : RunningPart) × At t index later × HasMore seat.run.state later.run.state
 
-pub grown : (n : ℕ) (s : Simulation) (place : ℕ) (seat : RunningPart) → At s place seat → HasLater (guarded_runs n s) place seat
+pub grown : (n : ℕ) (s : Simulation) (index : ℕ) (seat : RunningPart) → At s index seat → HasLater (guarded_runs n s) index seat
 unfolding guarded_runs
-grown zero s place seat at = (seat, at, more_same seat.run.state)
-grown (suc more) s place seat at = by_choices (choices_of s) (λ x next there. grown more x place next there)
+grown zero s index seat at = (seat, at, more_same seat.run.state)
+grown (suc more) s index seat at = by_choices (choices_of s) (λ x next there. grown more x index next there)
   where
     by_choices : (choices : List Choice)
-        → ((x : Simulation) (next : RunningPart) → At x place next → HasLater (guarded_runs more x) place next) → HasLater (guarded_on more s choices) place seat
+        → ((x : Simulation) (next : RunningPart) → At x index next → HasLater (guarded_runs more x) index next) → HasLater (guarded_on more s choices) index seat
     by_choices [] again = (seat, at, more_same seat.run.state)
     by_choices (c ∷ choices) again =
-        let next = next_by s place seat (order_of s (c ∷ choices)) (pick_of s (c ∷ choices)) at in
-        let there : At (guarded_taken s (c ∷ choices)) place next.0 =
-        subst (λ (t : Simulation). At t place next.0) (sym (guarded_taken_is s (c ∷ choices))) next.1 in
+        let next = next_by s index seat (order_of s (c ∷ choices)) (pick_of s (c ∷ choices)) at in
+        let there : At (guarded_taken s (c ∷ choices)) index next.0 =
+        subst (λ (t : Simulation). At t index next.0) (sym (guarded_taken_is s (c ∷ choices))) next.1 in
         let later = again (guarded_taken s (c ∷ choices)) next.0 there in (
           later.0,
           later.1,
           more_more seat.run.state next.0.run.state later.0.run.state
-              (more_next seat next.0 (pick_of s (c ∷ choices)) place next.2) later.2,
+              (more_next seat next.0 (pick_of s (c ∷ choices)) index next.2) later.2,
         )
 
 -- ---- the run with all the traps
@@ -165,7 +165,7 @@ faults_in None = []
 faults_in (Some seat) = seat.run.state.spec.faults
 
 abbrev pub at_end : Simulation → ℕ → List Fault → List Fault
-at_end t place own = faults_in (slice_get t.parts place)
+at_end t index own = faults_in (slice_get t.parts index)
 
 guarded_owned : (faults : List Fault) (seat : RunningPart) (s : Step) → seat_with faults seat ≡ seat_with faults (guarded_seat s seat)
 guarded_owned faults seat s = ap (λ (p : PartState). record seat { run = record seat.run { state = p } })
@@ -175,14 +175,14 @@ guarded_owned faults seat s = ap (λ (p : PartState). record seat { run = record
     by_trap None q h = ap (with_own faults) (sym h)
     by_trap (Some f) q h = ap (with_own faults) (sym h.2)
 
--- the end is reached from the simulation, by steps under the guard
+-- the simulation reaches the end by steps under the guard
 module _ (t : Simulation) where
   abbrev change : ℕ → List Fault → List Fault
   change = at_end t
 
-  -- each part that is there is there at the end, with more faults of later bursts
+  -- each part of it is also there at the end, with more faults of later bursts
   abbrev LeadsTo : Simulation → Type 0
-  LeadsTo s = (place : ℕ) (seat : RunningPart) → At s place seat → HasLater t place seat
+  LeadsTo s = (index : ℕ) (seat : RunningPart) → At s index seat → HasLater t index seat
 
   same_in : (s : Simulation) (order : Order) (c : Choice) (seat : RunningPart) → At s c.part seat
       → LeadsTo (guarded_by s order (Some c)) → IsSameIn change c.part c.step (Some (guarded_seat c.step seat))
@@ -214,8 +214,8 @@ module _ (t : Simulation) where
           ∙ stepped_seat change s order c (guarded_seat c.step seat) (same_in s order c seat e leads)
 
   leads_from : (more : ℕ) (s : Simulation) (order : Order) (o : Option Choice) → guarded_runs more (guarded_by s order o) ≡ t → LeadsTo (guarded_by s order o)
-  leads_from more s order o e = λ place seat at.
-      subst (λ (x : Simulation). HasLater x place seat) e (grown more (guarded_by s order o) place seat at)
+  leads_from more s order o e = λ index seat at.
+      subst (λ (x : Simulation). HasLater x index seat) e (grown more (guarded_by s order o) index seat at)
 
   pub runs_guarded : (n : ℕ) (s : Simulation) → guarded_runs n s ≡ t → runs n (owned change s) ≡ owned change t
   unfolding guarded_runs runs taken guarded_taken
@@ -230,7 +230,7 @@ module _ (t : Simulation) where
           (leads_from more s (order_of s (c ∷ choices)) (pick_of s (c ∷ choices)) e'))
           ∙ again (guarded_taken s (c ∷ choices)) e'
 
--- the parts at the end have the faults that they have
+-- the faults of the parts at the end are their own
 
 owning_self : (c : ℕ → List Fault → List Fault) (n : ℕ) (parts : List RunningPart)
     → ((i j : ℕ) (seat : RunningPart) (own : List Fault) → j ≡ n + i → slice_get parts i ≡ Some seat → c j own ≡ seat.run.state.spec.faults)
@@ -248,7 +248,7 @@ at_end_is t i j seat own e at = let same : j ≡ i = omega arith in ap (λ (k : 
 pub owned_end : (t : Simulation) → owned (at_end t) t ≡ t
 owned_end t = ap (λ (parts : List RunningPart). record t { parts = parts }) (owning_self (at_end t) 0 t.parts (at_end_is t))
 
--- the specs of the parts, but for their faults, are those of the scenario
+-- the specs of the parts are those of the scenario, except for faults
 
 abbrev pub IsOf : RunningPart → PartSpec → Type 0
 IsOf seat spec = seat.run.state.spec ≡ record spec { faults = seat.run.state.spec.faults }
@@ -329,7 +329,7 @@ unfolding begins
 begins_guarded scenario t a =
     ap (λ (parts : List RunningPart). record (begins scenario) { parts = parts }) (opened_of (at_end t) 0 t.parts scenario.parts a (at_end_is t))
 
--- the guarded run, step by step, is that of the guarded scenario
+-- the guarded run is that of the guarded scenario, step by step
 pub guarded_reaches : (scenario : Scenario) (n : ℕ) (t : Simulation) → guarded_runs n (begins scenario) ≡ t
     → runs n (begins (guarded_scenario scenario t)) ≡ t
 guarded_reaches scenario n t e =

@@ -1,4 +1,4 @@
--- The faults of a burst, where one more stands behind a part's own.
+-- The faults of a burst, if one more follows a part's own.
 use Rattle.std.proofs.Common.{◌≡◌, ◌≤◌, ◌<◌, ℕ, ◌==◌, true, false, nat_le, filter, List, [], ◌∷◌, ◌++◌, refl, sym, ap, ◌∙◌, arith}
 use Rattle.std.proofs.lemmas.Bool.{le-leb, leb-false, leb-true, lt-leb}
 use Rattle.std.proofs.lemmas.List.Elements.{filter-append}
@@ -6,7 +6,7 @@ use Rattle.std.proofs.lemmas.List.{append-nil}
 use Rattle.nook_data.specs.declared.scenario.Fault.{Fault}
 use Rattle.machine_defs.proofs.BurstKeeps.{split}
 use Rattle.machine_defs.specs.BurstFaults.{faults_of_burst, in_order, insert_fault, is_of_burst}
-use Rattle.front_laws.specs.Fronts.{IsRising, put_behind}
+use Rattle.front_laws.specs.Fronts.{IsRising, put_after}
 
 insert_before : (g h : Fault) (ys : List Fault) → nat_le g.after h.after ≡ true → insert_fault g (h ∷ ys) ≡ g ∷ h ∷ ys
 insert_before g h ys e = rw e refl
@@ -14,11 +14,11 @@ insert_before g h ys e = rw e refl
 insert_later : (g h : Fault) (ys : List Fault) → nat_le g.after h.after ≡ false → insert_fault g (h ∷ ys) ≡ h ∷ insert_fault g ys
 insert_later g h ys e = rw e refl
 
-pub behind_later : (f g : Fault) (ys : List Fault) → nat_le g.after f.after ≡ true → put_behind f (g ∷ ys) ≡ g ∷ put_behind f ys
-behind_later f g ys e = rw e refl
+pub after_later : (f g : Fault) (ys : List Fault) → nat_le g.after f.after ≡ true → put_after f (g ∷ ys) ≡ g ∷ put_after f ys
+after_later f g ys e = rw e refl
 
-pub behind_here : (f g : Fault) (ys : List Fault) → nat_le g.after f.after ≡ false → put_behind f (g ∷ ys) ≡ f ∷ g ∷ ys
-behind_here f g ys e = rw e refl
+pub after_here : (f g : Fault) (ys : List Fault) → nat_le g.after f.after ≡ false → put_after f (g ∷ ys) ≡ f ∷ g ∷ ys
+after_here f g ys e = rw e refl
 
 not_before : (f g h : Fault) → nat_le h.after f.after ≡ false → nat_le g.after h.after ≡ false → nat_le g.after f.after ≡ false
 not_before f g h fh hg =
@@ -32,37 +32,37 @@ before_too f g h gh hf =
     let b : h.after ≤ f.after = leb-true h.after f.after hf in
     le-leb g.after f.after (omega arith)
 
--- a fault is put in front of those of its place, and another behind them, in either order
-insert_behind : (f g : Fault) (ys : List Fault) → insert_fault g (put_behind f ys) ≡ put_behind f (insert_fault g ys)
-insert_behind f g [] = split (nat_le g.after f.after) (λ e. rw e refl) (λ e. rw e refl)
-insert_behind f g (h ∷ ys) = split (nat_le h.after f.after)
-    (λ hf. ap (insert_fault g) (behind_later f h ys hf) ∙ split (nat_le g.after h.after)
-    (λ gh. insert_before g h (put_behind f ys) gh
-    ∙ sym (ap (put_behind f) (insert_before g h ys gh) ∙ behind_later f g (h ∷ ys) (before_too f g h gh hf)
-    ∙ ap (λ (xs : List Fault). g ∷ xs) (behind_later f h ys hf)))
-    (λ hg. insert_later g h (put_behind f ys) hg ∙ ap (λ (xs : List Fault). h ∷ xs) (insert_behind f g ys)
-    ∙ sym (ap (put_behind f) (insert_later g h ys hg) ∙ behind_later f h (insert_fault g ys) hf)))
-    (λ fh. ap (insert_fault g) (behind_here f h ys fh) ∙ split (nat_le g.after h.after)
+-- a fault is inserted before those at its position, and another after them, in either order
+insert_after : (f g : Fault) (ys : List Fault) → insert_fault g (put_after f ys) ≡ put_after f (insert_fault g ys)
+insert_after f g [] = split (nat_le g.after f.after) (λ e. rw e refl) (λ e. rw e refl)
+insert_after f g (h ∷ ys) = split (nat_le h.after f.after)
+    (λ hf. ap (insert_fault g) (after_later f h ys hf) ∙ split (nat_le g.after h.after)
+    (λ gh. insert_before g h (put_after f ys) gh
+    ∙ sym (ap (put_after f) (insert_before g h ys gh) ∙ after_later f g (h ∷ ys) (before_too f g h gh hf)
+    ∙ ap (λ (xs : List Fault). g ∷ xs) (after_later f h ys hf)))
+    (λ hg. insert_later g h (put_after f ys) hg ∙ ap (λ (xs : List Fault). h ∷ xs) (insert_after f g ys)
+    ∙ sym (ap (put_after f) (insert_later g h ys hg) ∙ after_later f h (insert_fault g ys) hf)))
+    (λ fh. ap (insert_fault g) (after_here f h ys fh) ∙ split (nat_le g.after h.after)
     (λ gh. split (nat_le g.after f.after)
     (λ gf. insert_before g f (h ∷ ys) gf
-    ∙ sym (ap (put_behind f) (insert_before g h ys gh) ∙ behind_later f g (h ∷ ys) gf
-    ∙ ap (λ (xs : List Fault). g ∷ xs) (behind_here f h ys fh)))
+    ∙ sym (ap (put_after f) (insert_before g h ys gh) ∙ after_later f g (h ∷ ys) gf
+    ∙ ap (λ (xs : List Fault). g ∷ xs) (after_here f h ys fh)))
     (λ fg. insert_later g f (h ∷ ys) fg ∙ ap (λ (xs : List Fault). f ∷ xs) (insert_before g h ys gh)
-    ∙ sym (ap (put_behind f) (insert_before g h ys gh) ∙ behind_here f g (h ∷ ys) fg)))
+    ∙ sym (ap (put_after f) (insert_before g h ys gh) ∙ after_here f g (h ∷ ys) fg)))
     (λ hg. insert_later g f (h ∷ ys) (not_before f g h fh hg) ∙ ap (λ (xs : List Fault). f ∷ xs) (insert_later g h ys hg)
-    ∙ sym (ap (put_behind f) (insert_later g h ys hg) ∙ behind_here f h (insert_fault g ys) fh)))
+    ∙ sym (ap (put_after f) (insert_later g h ys hg) ∙ after_here f h (insert_fault g ys) fh)))
 
-order_behind : (f : Fault) (xs : List Fault) → in_order (xs ++ f ∷ []) ≡ put_behind f (in_order xs)
-order_behind f [] = refl
-order_behind f (g ∷ xs) = ap (insert_fault g) (order_behind f xs) ∙ insert_behind f g (in_order xs)
+order_after : (f : Fault) (xs : List Fault) → in_order (xs ++ f ∷ []) ≡ put_after f (in_order xs)
+order_after f [] = refl
+order_after f (g ∷ xs) = ap (insert_fault g) (order_after f xs) ∙ insert_after f g (in_order xs)
 
--- a fault of the burst behind a part's own stands behind those that strike no later
+-- a fault of the burst that follows a part's own comes after those that strike no later
 pub own_burst : (n : ℕ) (own : List Fault) (f : Fault) → (f.burst == n) ≡ true
-    → faults_of_burst n (own ++ f ∷ []) ≡ put_behind f (faults_of_burst n own)
+    → faults_of_burst n (own ++ f ∷ []) ≡ put_after f (faults_of_burst n own)
 unfolding faults_of_burst
 own_burst n own f e =
     ap in_order (filter-append (is_of_burst n) own (f ∷ []) ∙ ap (λ (xs : List Fault). filter (is_of_burst n) own ++ xs) (passes e))
-    ∙ order_behind f (filter (is_of_burst n) own)
+    ∙ order_after f (filter (is_of_burst n) own)
   where
     passes : (f.burst == n) ≡ true → filter (is_of_burst n) (f ∷ []) ≡ f ∷ []
     passes h = rw h refl
@@ -78,11 +78,11 @@ other_burst n own f e =
     fails : (f.burst == n) ≡ false → filter (is_of_burst n) (f ∷ []) ≡ []
     fails h = rw h refl
 
--- the faults of a burst rise
+-- the faults of a burst are in increasing order
 
-insert_rises : (place : ℕ) (f : Fault) (ys : List Fault) → place ≤ f.after → IsRising place ys → IsRising place (insert_fault f ys)
-insert_rises place f [] h r = (h, tt)
-insert_rises place f (g ∷ ys) h r = split (nat_le f.after g.after)
+insert_rises : (point : ℕ) (f : Fault) (ys : List Fault) → point ≤ f.after → IsRising point ys → IsRising point (insert_fault f ys)
+insert_rises point f [] h r = (h, tt)
+insert_rises point f (g ∷ ys) h r = split (nat_le f.after g.after)
     (λ e. rw e (h, (leb-true f.after g.after e, r.1)))
     (λ e. let low : g.after < f.after = leb-false f.after g.after e in
     rw e (r.0, insert_rises g.after f ys (omega arith) r.1))
@@ -95,21 +95,21 @@ pub burst_rises : (n : ℕ) (faults : List Fault) → IsRising 0 (faults_of_burs
 unfolding faults_of_burst
 burst_rises n faults = order_rises (filter (is_of_burst n) faults)
 
--- two faults, of which the one strikes before the other, are put behind in either order
-pub behind_both : (t f : Fault) (ys : List Fault) → t.after < f.after → put_behind t (put_behind f ys) ≡ put_behind f (put_behind t ys)
-behind_both t f [] h =
-    behind_here t f [] (lt-leb f.after t.after h) ∙ sym (behind_later f t [] (le-leb t.after f.after (omega arith)))
-behind_both t f (g ∷ ys) h = split (nat_le g.after t.after)
+-- two faults, one of which strikes before the other, are inserted in either order
+pub after_both : (t f : Fault) (ys : List Fault) → t.after < f.after → put_after t (put_after f ys) ≡ put_after f (put_after t ys)
+after_both t f [] h =
+    after_here t f [] (lt-leb f.after t.after h) ∙ sym (after_later f t [] (le-leb t.after f.after (omega arith)))
+after_both t f (g ∷ ys) h = split (nat_le g.after t.after)
     (λ gt. let low : g.after ≤ t.after = leb-true g.after t.after gt in
     let gf : nat_le g.after f.after ≡ true = le-leb g.after f.after (omega arith) in
-    ap (put_behind t) (behind_later f g ys gf) ∙ behind_later t g (put_behind f ys) gt
-    ∙ ap (λ (xs : List Fault). g ∷ xs) (behind_both t f ys h)
-    ∙ sym (ap (put_behind f) (behind_later t g ys gt) ∙ behind_later f g (put_behind t ys) gf))
+    ap (put_after t) (after_later f g ys gf) ∙ after_later t g (put_after f ys) gt
+    ∙ ap (λ (xs : List Fault). g ∷ xs) (after_both t f ys h)
+    ∙ sym (ap (put_after f) (after_later t g ys gt) ∙ after_later f g (put_after t ys) gf))
     (λ tg. let tf : nat_le t.after f.after ≡ true = le-leb t.after f.after (omega arith) in
     split (nat_le g.after f.after)
-    (λ gf. ap (put_behind t) (behind_later f g ys gf) ∙ behind_here t g (put_behind f ys) tg
-    ∙ sym (ap (put_behind f) (behind_here t g ys tg) ∙ behind_later f t (g ∷ ys) tf
-    ∙ ap (λ (xs : List Fault). t ∷ xs) (behind_later f g ys gf)))
-    (λ fg. ap (put_behind t) (behind_here f g ys fg) ∙ behind_here t f (g ∷ ys) (lt-leb f.after t.after h)
-    ∙ sym (ap (put_behind f) (behind_here t g ys tg) ∙ behind_later f t (g ∷ ys) tf
-    ∙ ap (λ (xs : List Fault). t ∷ xs) (behind_here f g ys fg))))
+    (λ gf. ap (put_after t) (after_later f g ys gf) ∙ after_here t g (put_after f ys) tg
+    ∙ sym (ap (put_after f) (after_here t g ys tg) ∙ after_later f t (g ∷ ys) tf
+    ∙ ap (λ (xs : List Fault). t ∷ xs) (after_later f g ys gf)))
+    (λ fg. ap (put_after t) (after_here f g ys fg) ∙ after_here t f (g ∷ ys) (lt-leb f.after t.after h)
+    ∙ sym (ap (put_after f) (after_here t g ys tg) ∙ after_later f t (g ∷ ys) tf
+    ∙ ap (λ (xs : List Fault). t ∷ xs) (after_here f g ys fg))))

@@ -33,10 +33,10 @@ unfolding enabled
 arrival_same faults seat [] = refl
 arrival_same faults seat (frame ∷ coming) = refl
 
--- the choice that the schedule picks, what is left of the schedule, and the rest of a run
+-- the choice that the schedule picks, the rest of the schedule, and the rest of a run
 
 abbrev pub pick_of : Simulation → List Choice → Option Choice
-pick_of s choices = slice_get choices (picked s.order (map actor_of choices)).place
+pick_of s choices = slice_get choices (picked s.order (map actor_of choices)).index
 
 abbrev pub order_of : Simulation → List Choice → Order
 order_of s choices = (picked s.order (map actor_of choices)).order
@@ -119,21 +119,21 @@ module _ (change : ℕ → List Fault → List Fault) where
 
   -- a step
 
-  -- the step's burst, if it is one, is the same with the other faults
+  -- if the step is a burst, it is the same with the other faults
   abbrev pub IsSameIn : ℕ → Step → Option RunningPart → Type 0
-  IsSameIn place s None = Unit {0}
-  IsSameIn place s (Some seat) = IsSameBurst (change place seat.run.state.spec.faults) seat.run.state s
+  IsSameIn index s None = Unit {0}
+  IsSameIn index s (Some seat) = IsSameBurst (change index seat.run.state.spec.faults) seat.run.state s
 
-  part_same : (place : ℕ) (s : Step) (seat : RunningPart) → IsSameIn place s (Some seat)
-      → part_after s (seat_at place seat) ≡ seat_at place (part_after s seat)
-  part_same place s seat h =
-      let faults : List Fault = change place seat.run.state.spec.faults in
+  part_same : (index : ℕ) (s : Step) (seat : RunningPart) → IsSameIn index s (Some seat)
+      → part_after s (seat_at index seat) ≡ seat_at index (part_after s seat)
+  part_same index s seat h =
+      let faults : List Fault = change index seat.run.state.spec.faults in
       let after : state_after (with_own faults seat.run.state) s
-      ≡ with_own (change place (state_after seat.run.state s).spec.faults) (state_after seat.run.state s) =
+      ≡ with_own (change index (state_after seat.run.state s).spec.faults) (state_after seat.run.state s) =
       after_same faults seat.run.state s h
-      ∙ ap (λ (spec : PartSpec). with_own (change place spec.faults) (state_after seat.run.state s)) (sym (spec_after seat.run.state s)) in
+      ∙ ap (λ (spec : PartSpec). with_own (change index spec.faults) (state_after seat.run.state s)) (sym (spec_after seat.run.state s)) in
       ap (λ (p : PartState). seat_after p (event_of (with_own faults seat.run.state) s)) after
-      ∙ ap (seat_after (with_own (change place (state_after seat.run.state s).spec.faults) (state_after seat.run.state s))) (event_same faults seat.run.state s h)
+      ∙ ap (seat_after (with_own (change index (state_after seat.run.state s).spec.faults) (state_after seat.run.state s))) (event_same faults seat.run.state s h)
     where
       seat_after : PartState → Event → RunningPart
       seat_after p e = record {
@@ -171,7 +171,7 @@ module _ (change : ℕ → List Fault → List Fault) where
       by_seat None h' = refl
       by_seat (Some seat) h' = stepped_seat s order c seat h'
 
-  -- the choice that is picked makes the same burst
+  -- the picked choice does the same burst
   abbrev pub IsSamePick : Simulation → Option Choice → Type 0
   IsSamePick s None = Unit {0}
   IsSamePick s (Some c) = IsSameIn c.part c.step (slice_get s.parts c.part)
@@ -192,7 +192,7 @@ module _ (change : ℕ → List Fault → List Fault) where
   IsSameRest more s [] rest = Unit {0}
   IsSameRest more s (c ∷ choices) rest = IsSamePick s (pick_of s (c ∷ choices)) × rest (taken s (c ∷ choices))
 
-  -- so it is of so many steps
+  -- the same for this number of steps
   unfoldable pub AreSameSteps : ℕ → Simulation → Type 0
   AreSameSteps zero s = Unit {0}
   AreSameSteps (suc more) s = IsSameRest more s (choices_of s) (AreSameSteps more)
@@ -208,7 +208,7 @@ module _ (change : ℕ → List Fault → List Fault) where
       by_choices [] h' again = refl
       by_choices (c ∷ choices) h' again = ap (runs more) (taken_same s (c ∷ choices) h'.0) ∙ again (taken s (c ∷ choices)) h'.1
 
--- parts at first
+-- opening parts
 
 pub opens_with : (faults : List Fault) (spec : PartSpec) → opening_part (record spec { faults = faults }) ≡ seat_with faults (opening_part spec)
 opens_with faults spec =

@@ -1,4 +1,4 @@
--- A burst that does not reach a fault is the burst without it; one that a trap cuts short has the acts of its first turns.
+-- A burst that does not reach a fault is the burst without it; one that a trap ends has the acts before the trap.
 use Rattle.std.proofs.Common.{◌≡◌, ◌≤◌, ◌<◌, ℕ, zero, suc, ◌-◌, ◌==◌, true, false, nat_le, is_some, Option, Some, None, List, [], ◌++◌, length, refl, sym, ap, subst, ◌∙◌, arith, append_assoc, append-nil}
 use Rattle.std.proofs.lemmas.Bool.{eqb-true, eqb-false, le-leb, lt-leb}
 use Rattle.nook_data.specs.declared.entries.Entry.{Entry}
@@ -12,12 +12,12 @@ use Rattle.nook_data.specs.declared.scenario.FaultKind.TheVariants as fault
 use Rattle.guard_defs.specs.Turns.{acts_from, acts_within, turns_from, turns_of}
 use Rattle.machine_defs.proofs.BurstKeeps.{split}
 use Rattle.machine_defs.specs.Burst.{Burst, Going, Struck, acts_of, burst, burst_from, count_at, ended, on, one_turn, over, strikes_at}
-use Rattle.machine_defs.specs.Turn.{Machine, turn}
-use Rattle.front_laws.specs.Fronts.{IsCutShort, IsRising, put_behind}
-use Rattle.front_laws.proofs.Striking.{IsStoppedAs, LeavesRising, by_option, going_behind, one_turn_is, past_crossing, strikes_cut}
-use Rattle.front_laws.proofs.Striking.{turn_behind, turn_leaves, turn_stops, turn_turns}
+use Rattle.machine_defs.specs.Execution.{Machine, turn}
+use Rattle.front_laws.specs.Fronts.{IsCutShort, IsRising, put_after}
+use Rattle.front_laws.proofs.Striking.{IsStoppedAs, LeavesRising, by_option, going_after, one_turn_is, past_crossing, strikes_cut}
+use Rattle.front_laws.proofs.Striking.{turn_after, turn_leaves, turn_stops, turn_turns}
 
--- each recursion by what one turn leaves
+-- each recursion by what one instruction leaves
 
 abbrev pub burst_after : ℕ → List Entry → Going → Burst
 burst_after left entries (on m rest acts) = burst_from left entries rest m acts
@@ -62,7 +62,7 @@ pub by_going : {G : Type 0} (g : Going) → ((m : Machine) (rest : List Fault) (
 by_going (on m rest acts) goes ends = goes m rest acts refl
 by_going (over b) goes ends = ends b refl
 
--- how many turns
+-- the number of instructions
 
 pub turns_stop : (left : ℕ) (entries : List Entry) (faults : List Fault) (m : Machine) (acts : List Act) (cause : TrapCause)
     → (strikes_at (4096 - suc left) entries faults m).stopped ≡ Some cause
@@ -114,35 +114,35 @@ turns_high (suc left) entries faults m acts =
 
 -- a burst that does not reach the fault
 
-burst_behind : (f : Fault) (left : ℕ) (entries : List Entry) (faults : List Fault) (m : Machine) (acts : List Act)
-    → one_turn left entries (put_behind f faults) m acts ≡ going_behind f (one_turn left entries faults m acts)
+burst_following : (f : Fault) (left : ℕ) (entries : List Entry) (faults : List Fault) (m : Machine) (acts : List Act)
+    → one_turn left entries (put_after f faults) m acts ≡ going_after f (one_turn left entries faults m acts)
     → ((m' : Machine) (rest : List Fault) (acts' : List Act) → one_turn left entries faults m acts ≡ on m' rest acts'
-    → burst_from left entries (put_behind f rest) m' acts' ≡ burst_from left entries rest m' acts')
-    → burst_from (suc left) entries (put_behind f faults) m acts ≡ burst_from (suc left) entries faults m acts
-burst_behind f left entries faults m acts h more =
-    burst_is left entries (put_behind f faults) m acts ∙ ap (burst_after left entries) h
+    → burst_from left entries (put_after f rest) m' acts' ≡ burst_from left entries rest m' acts')
+    → burst_from (suc left) entries (put_after f faults) m acts ≡ burst_from (suc left) entries faults m acts
+burst_following f left entries faults m acts h more =
+    burst_is left entries (put_after f faults) m acts ∙ ap (burst_after left entries) h
     ∙ by_going (one_turn left entries faults m acts)
-    (λ m' rest acts' e. ap (λ (g : Going). burst_after left entries (going_behind f g)) e ∙ more m' rest acts' e
+    (λ m' rest acts' e. ap (λ (g : Going). burst_after left entries (going_after f g)) e ∙ more m' rest acts' e
     ∙ ap (burst_after left entries) (sym e))
-    (λ b e. ap (λ (g : Going). burst_after left entries (going_behind f g)) e ∙ ap (burst_after left entries) (sym e))
+    (λ b e. ap (λ (g : Going). burst_after left entries (going_after f g)) e ∙ ap (burst_after left entries) (sym e))
     ∙ sym (burst_is left entries faults m acts)
 
 pub past_from : (f : Fault) (left : ℕ) (entries : List Entry) (faults : List Fault) (m : Machine) (acts : List Act) → left ≤ 4096
     → turns_from left entries faults m acts ≤ f.after
-    → burst_from left entries (put_behind f faults) m acts ≡ burst_from left entries faults m acts
+    → burst_from left entries (put_after f faults) m acts ≡ burst_from left entries faults m acts
 unfolding burst_from
 past_from f zero entries faults m acts low h = refl
 past_from f (suc left) entries faults m acts low h =
     by_option (strikes_at (4096 - suc left) entries faults m).stopped
     (λ cause some. let at : turns_from (suc left) entries faults m acts ≡ 4096 - suc left = turns_stop left entries faults m acts cause some in
-    burst_behind f left entries faults m acts
-    (turn_behind f left entries faults m acts (omega arith) (λ here. ap is_some some))
+    burst_following f left entries faults m acts
+    (turn_after f left entries faults m acts (omega arith) (λ here. ap is_some some))
     (λ m' rest acts' e. let s : Struck = strikes_at (4096 - suc left) entries faults m in
     let stops : one_turn left entries faults m acts ≡ over (ended (count_at (4096 - suc left) cause) s.machine acts (ends.Trap cause)) =
     one_turn_is left entries faults m acts ∙ turn_stops left entries acts s cause some in
     let no : on m' rest acts' ≡ over (ended (count_at (4096 - suc left) cause) s.machine acts (ends.Trap cause)) = sym e ∙ stops in absurd cc))
-    (λ none. burst_behind f left entries faults m acts
-    (turn_behind f left entries faults m acts (before left entries faults m acts low h none)
+    (λ none. burst_following f left entries faults m acts
+    (turn_after f left entries faults m acts (before left entries faults m acts low h none)
     (λ here. absurd (apart left f.after low (before left entries faults m acts low h none)
     (eqb-true f.after (4096 - suc left) here) (above left entries faults m acts low h none))))
     (λ m' rest acts' e. past_from f left entries rest m' acts' (omega arith)
@@ -169,7 +169,7 @@ past_from f (suc left) entries faults m acts low h =
     apart left after low a b c = omega arith
 
 pub burst_past : (f : Fault) (entries : List Entry) (faults : List Fault) (m : Machine) → turns_of entries faults m ≤ f.after
-    → burst entries (put_behind f faults) m ≡ burst entries faults m
+    → burst entries (put_after f faults) m ≡ burst entries faults m
 unfolding burst
 burst_past f entries faults m h = past_from f 4096 entries faults m [] (omega arith) h
 
@@ -178,20 +178,20 @@ burst_past f entries faults m h = past_from f 4096 entries faults m [] (omega ar
 cut_at : (f : Fault) (left : ℕ) (entries : List Entry) (faults : List Fault) (m : Machine) (acts : List Act) → f.kind ≡ fault.Trap
     → (f.after == (4096 - suc left)) ≡ true → IsRising (4096 - suc left) faults
     → (strikes_at (4096 - suc left) entries faults m).stopped ≡ None
-    → IsCutShort (4096 - suc left) acts (burst_from (suc left) entries (put_behind f faults) m acts)
+    → IsCutShort (4096 - suc left) acts (burst_from (suc left) entries (put_after f faults) m acts)
 cut_at f left entries faults m acts kind here rising none =
-    let place : ℕ = 4096 - suc left in
-    let s : Struck = strikes_at place entries faults m in
-    let t : Struck = strikes_at place entries (put_behind f faults) m in
-    let cut : IsStoppedAs s t = strikes_cut f place entries faults m kind here rising none in
-    let e : burst_from (suc left) entries (put_behind f faults) m acts ≡ ended place t.machine acts (ends.Trap trap.Injected) =
-    burst_is left entries (put_behind f faults) m acts
-    ∙ ap (burst_after left entries) (one_turn_is left entries (put_behind f faults) m acts ∙ turn_stops left entries acts t trap.Injected cut.stopped) in
-    subst (IsCutShort place acts) (sym e) (record { acts_of_turns = refl; count = refl; ending = refl })
+    let point : ℕ = 4096 - suc left in
+    let s : Struck = strikes_at point entries faults m in
+    let t : Struck = strikes_at point entries (put_after f faults) m in
+    let cut : IsStoppedAs s t = strikes_cut f point entries faults m kind here rising none in
+    let e : burst_from (suc left) entries (put_after f faults) m acts ≡ ended point t.machine acts (ends.Trap trap.Injected) =
+    burst_is left entries (put_after f faults) m acts
+    ∙ ap (burst_after left entries) (one_turn_is left entries (put_after f faults) m acts ∙ turn_stops left entries acts t trap.Injected cut.stopped) in
+    subst (IsCutShort point acts) (sym e) (record { acts_of_turns = refl; count = refl; ending = refl })
 
 pub cut_from : (f : Fault) (left : ℕ) (entries : List Entry) (faults : List Fault) (m : Machine) (acts : List Act) → left ≤ 4096
     → f.kind ≡ fault.Trap → IsRising (4096 - left) faults → 4096 - left ≤ f.after → f.after < turns_from left entries faults m acts
-    → IsCutShort f.after (acts_from f.after left entries faults m acts) (burst_from left entries (put_behind f faults) m acts)
+    → IsCutShort f.after (acts_from f.after left entries faults m acts) (burst_from left entries (put_after f faults) m acts)
 unfolding turns_from
 cut_from f zero entries faults m acts low kind rising from below = absurd (omega arith)
 cut_from f (suc left) entries faults m acts low kind rising from below =
@@ -200,8 +200,8 @@ cut_from f (suc left) entries faults m acts low kind rising from below =
     absurd (omega arith))
     (λ none. split (f.after == (4096 - suc left))
     (λ here. let same : f.after ≡ 4096 - suc left = eqb-true f.after (4096 - suc left) here in
-    subst (λ (n : ℕ). IsCutShort n (acts_from f.after (suc left) entries faults m acts) (burst_from (suc left) entries (put_behind f faults) m acts)) (sym same)
-    (subst (λ (a : List Act). IsCutShort (4096 - suc left) a (burst_from (suc left) entries (put_behind f faults) m acts))
+    subst (λ (n : ℕ). IsCutShort n (acts_from f.after (suc left) entries faults m acts) (burst_from (suc left) entries (put_after f faults) m acts)) (sym same)
+    (subst (λ (a : List Act). IsCutShort (4096 - suc left) a (burst_from (suc left) entries (put_after f faults) m acts))
     (sym (acts_stay f.after left entries faults m acts (le-leb f.after (4096 - suc left) (omega arith))))
     (cut_at f left entries faults m acts kind here rising none)))
     (λ later. let ne = eqb-false f.after (4096 - suc left) later in
@@ -212,16 +212,16 @@ cut_from f (suc left) entries faults m acts low kind rising from below =
     turns_on left entries faults m m' acts acts' rest none e in
     let rises : IsRising (suc (4096 - suc left)) rest =
     subst (LeavesRising (suc (4096 - suc left))) e (turn_leaves left entries faults m acts rising) in
-    let more : IsCutShort f.after (acts_from f.after left entries rest m' acts') (burst_from left entries (put_behind f rest) m' acts') =
+    let more : IsCutShort f.after (acts_from f.after left entries rest m' acts') (burst_from left entries (put_after f rest) m' acts') =
     cut_from f left entries rest m' acts' (omega arith) kind (subst (λ (n : ℕ). IsRising n rest) (next left low) rises) (omega arith) (omega arith) in
-    let eb : burst_from (suc left) entries (put_behind f faults) m acts ≡ burst_from left entries (put_behind f rest) m' acts' =
-    burst_is left entries (put_behind f faults) m acts
-    ∙ ap (burst_after left entries) (turn_behind f left entries faults m acts from (λ here. absurd (ne (eqb-true f.after (4096 - suc left) here)))
-    ∙ ap (going_behind f) e) in
+    let eb : burst_from (suc left) entries (put_after f faults) m acts ≡ burst_from left entries (put_after f rest) m' acts' =
+    burst_is left entries (put_after f faults) m acts
+    ∙ ap (burst_after left entries) (turn_after f left entries faults m acts from (λ here. absurd (ne (eqb-true f.after (4096 - suc left) here)))
+    ∙ ap (going_after f) e) in
     let ea : acts_from f.after (suc left) entries faults m acts ≡ acts_from f.after left entries rest m' acts' =
     acts_go f.after left entries faults m acts (lt-leb f.after (4096 - suc left) above) ∙ ap (acts_after f.after left entries) e in
     subst (λ (b : Burst). IsCutShort f.after (acts_from f.after (suc left) entries faults m acts) b) (sym eb)
-    (subst (λ (a : List Act). IsCutShort f.after a (burst_from left entries (put_behind f rest) m' acts')) (sym ea) more))
+    (subst (λ (a : List Act). IsCutShort f.after a (burst_from left entries (put_after f rest) m' acts')) (sym ea) more))
     (λ b e. let same : turns_from (suc left) entries faults m acts ≡ 4096 - left = turns_over left entries faults m acts b none e in
     absurd (omega arith))))
   where
@@ -233,11 +233,11 @@ cut_from f (suc left) entries faults m acts low kind rising from below =
 
 pub burst_cut : (f : Fault) (entries : List Entry) (faults : List Fault) (m : Machine) → f.kind ≡ fault.Trap → IsRising 0 faults
     → f.after < turns_of entries faults m
-    → IsCutShort f.after (acts_within f.after entries faults m) (burst entries (put_behind f faults) m)
+    → IsCutShort f.after (acts_within f.after entries faults m) (burst entries (put_after f faults) m)
 unfolding burst
 burst_cut f entries faults m kind rising below = cut_from f 4096 entries faults m [] (omega arith) kind rising (omega arith) below
 
--- what was done before stays
+-- what was done earlier stays
 
 abbrev IsFront : List Act → List Act → Type 0
 IsFront front acts = (later : List Act) × (acts ≡ front ++ later)

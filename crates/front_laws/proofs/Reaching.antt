@@ -1,4 +1,4 @@
--- The turn of a deed, and the turns of a burst that a trap cuts short.
+-- The instruction of a deed, and the instructions of a burst that a trap ends.
 use Rattle.std.proofs.Common.{◌≡◌, ◌≤◌, ◌<◌, ℕ, zero, suc, ◌+◌, ◌-◌, ◌==◌, true, false, nat_lt, None, List, [], ◌++◌, length, take, refl, sym, ap, subst, ◌∙◌, arith, length-append, take_at, take_all}
 use Rattle.std.proofs.lemmas.Bool.{eqb-false, eqb-true, le-leb, lt-leb, ltb-false, ltb-true}
 use Rattle.nook_data.specs.declared.entries.Entry.{Entry}
@@ -10,13 +10,13 @@ use Rattle.nook_data.specs.declared.scenario.FaultKind.TheVariants as fault
 use Rattle.guard_defs.specs.Turns.{acts_from, acts_within, turns_before, turns_from, turns_of, turns_to}
 use Rattle.machine_defs.proofs.BurstKeeps.{split}
 use Rattle.machine_defs.specs.Burst.{Burst, Struck, burst, burst_from, count_at, ended, on, one_turn, over, strikes_at}
-use Rattle.machine_defs.specs.Turn.{Machine}
-use Rattle.front_laws.specs.Fronts.{IsRising, put_behind}
+use Rattle.machine_defs.specs.Execution.{Machine}
+use Rattle.front_laws.specs.Fronts.{IsRising, put_after}
 use Rattle.front_laws.proofs.Past.{acts_after, acts_begin, acts_go, acts_stay, burst_after, burst_is, by_going, turns_on, turns_over, turns_stop}
-use Rattle.front_laws.proofs.Striking.{LeavesRising, StopsThere, by_option, going_behind, one_turn_is, strikes_behind, strikes_cut, turn_behind, turn_leaves, turn_stops}
+use Rattle.front_laws.proofs.Striking.{LeavesRising, StopsThere, by_option, going_after, one_turn_is, strikes_after, strikes_cut, turn_after, turn_leaves, turn_stops}
 use Rattle.front_laws.proofs.Within.{AddsOne, EndsOne, GoesOne, is_crossing, to_here, to_later, to_low, to_over, turn_one}
 
--- the turn of an act adds it
+-- the instruction of an act adds it
 
 stop_acts : (left : ℕ) (entries : List Entry) (faults : List Fault) (m : Machine) (acts : List Act)
     → (strikes_at (4096 - suc left) entries faults m).stopped ≡ None → (b : Burst) → one_turn left entries faults m acts ≡ over b
@@ -45,8 +45,8 @@ on_acts left entries faults m m' acts acts' rest none e deed low less =
     let begun = acts_begin left entries rest m' acts' in
     ap (take (suc deed)) begun.1 ∙ take_at acts' begun.0 (suc deed) (omega arith)
 
-past_place : (left turns : ℕ) → suc left ≤ 4096 → 4096 - suc left ≤ turns → 4096 - suc left < suc turns
-past_place left turns h l = omega arith
+past_position : (left turns : ℕ) → suc left ≤ 4096 → 4096 - suc left ≤ turns → 4096 - suc left < suc turns
+past_position left turns h l = omega arith
 
 act_made : (deed left : ℕ) (entries : List Entry) (faults : List Fault) (m : Machine) (acts : List Act) → left ≤ 4096
     → length acts ≤ deed → deed < length (burst_from left entries faults m acts).acts
@@ -58,7 +58,7 @@ act_made deed (suc left) entries faults m acts h low less =
     let from : 4096 - suc left ≤ turns_to deed (suc left) entries faults m acts = to_low deed (suc left) entries faults m acts h in
     let go : acts_from (suc (turns_to deed (suc left) entries faults m acts)) (suc left) entries faults m acts
     ≡ acts_after (suc (turns_to deed (suc left) entries faults m acts)) left entries (one_turn left entries faults m acts) =
-    acts_go (suc (turns_to deed (suc left) entries faults m acts)) left entries faults m acts (lt-leb _ (4096 - suc left) (past_place left _ h from)) in
+    acts_go (suc (turns_to deed (suc left) entries faults m acts)) left entries faults m acts (lt-leb _ (4096 - suc left) (past_position left _ h from)) in
     by_option s.stopped
     (λ cause some. let eb : burst_from (suc left) entries faults m acts ≡ ended (count_at (4096 - suc left) cause) s.machine acts (ends.Trap cause) =
     burst_is left entries faults m acts ∙ ap (burst_after left entries) (one_turn_is left entries faults m acts ∙ turn_stops left entries acts s cause some) in
@@ -82,7 +82,7 @@ act_made deed (suc left) entries faults m acts h low less =
     ∙ sym (stop_acts left entries faults m acts none b e deed low (subst (λ (x : Burst). deed < length x.acts) eb less))
     ∙ ap (λ (x : Burst). take (suc deed) x.acts) (sym eb)))
 
--- the turn of a crossing is the last
+-- the instruction of a crossing is the last
 
 crossing_last : (deed left : ℕ) (entries : List Entry) (faults : List Fault) (m : Machine) (acts : List Act) → left ≤ 4096
     → length (burst_from left entries faults m acts).acts ≤ deed → is_crossing (burst_from left entries faults m acts).ending ≡ true
@@ -113,11 +113,11 @@ crossing_last deed (suc left) entries faults m acts h low is =
     next : (left : ℕ) → suc left ≤ 4096 → suc (4096 - suc left) ≡ 4096 - left
     next left l = omega arith
 
--- a trap that a burst comes to leaves as many turns as it is after
+-- a burst that reaches a trap executes the instructions before it
 
 turns_cut : (f : Fault) (left : ℕ) (entries : List Entry) (faults : List Fault) (m : Machine) (acts : List Act) → left ≤ 4096
     → f.kind ≡ fault.Trap → IsRising (4096 - left) faults → 4096 - left ≤ f.after → f.after < turns_from left entries faults m acts
-    → turns_from left entries (put_behind f faults) m acts ≡ f.after
+    → turns_from left entries (put_after f faults) m acts ≡ f.after
 unfolding turns_from
 turns_cut f zero entries faults m acts low kind rising from below = absurd (omega arith)
 turns_cut f (suc left) entries faults m acts low kind rising from below =
@@ -125,20 +125,20 @@ turns_cut f (suc left) entries faults m acts low kind rising from below =
     (λ cause some. let at : turns_from (suc left) entries faults m acts ≡ 4096 - suc left = turns_stop left entries faults m acts cause some in
     absurd (omega arith))
     (λ none. split (f.after == (4096 - suc left))
-    (λ here. turns_stop left entries (put_behind f faults) m acts trap.Injected
+    (λ here. turns_stop left entries (put_after f faults) m acts trap.Injected
     (strikes_cut f (4096 - suc left) entries faults m kind here rising none).stopped ∙ sym (eqb-true f.after (4096 - suc left) here))
     (λ later. let ne = eqb-false f.after (4096 - suc left) later in
     let above : 4096 - suc left < f.after = strict f.after (4096 - suc left) from ne in
-    let turn : one_turn left entries (put_behind f faults) m acts ≡ going_behind f (one_turn left entries faults m acts) =
-    turn_behind f left entries faults m acts from (λ here. absurd (ne (eqb-true f.after (4096 - suc left) here))) in
+    let turn : one_turn left entries (put_after f faults) m acts ≡ going_after f (one_turn left entries faults m acts) =
+    turn_after f left entries faults m acts from (λ here. absurd (ne (eqb-true f.after (4096 - suc left) here))) in
     by_going (one_turn left entries faults m acts)
     (λ m' rest acts' e.
     let same : turns_from (suc left) entries faults m acts ≡ turns_from left entries rest m' acts' =
     turns_on left entries faults m m' acts acts' rest none e in
     let rises : IsRising (suc (4096 - suc left)) rest =
     subst (LeavesRising (suc (4096 - suc left))) e (turn_leaves left entries faults m acts rising) in
-    turns_on left entries (put_behind f faults) m m' acts acts' (put_behind f rest)
-    (still f left entries faults m from (λ here. absurd (ne (eqb-true f.after (4096 - suc left) here))) none) (turn ∙ ap (going_behind f) e)
+    turns_on left entries (put_after f faults) m m' acts acts' (put_after f rest)
+    (still f left entries faults m from (λ here. absurd (ne (eqb-true f.after (4096 - suc left) here))) none) (turn ∙ ap (going_after f) e)
     ∙ turns_cut f left entries rest m' acts' (omega arith) kind (subst (λ (n : ℕ). IsRising n rest) (next left low) rises) (omega arith) (omega arith))
     (λ b e. let same : turns_from (suc left) entries faults m acts ≡ 4096 - left = turns_over left entries faults m acts b none e in
     absurd (omega arith))))
@@ -152,11 +152,11 @@ turns_cut f (suc left) entries faults m acts low kind rising from below =
     still : (f : Fault) (left : ℕ) (entries : List Entry) (faults : List Fault) (m : Machine) → 4096 - suc left ≤ f.after
         → StopsThere (4096 - suc left) f (strikes_at (4096 - suc left) entries faults m)
         → (strikes_at (4096 - suc left) entries faults m).stopped ≡ None
-        → (strikes_at (4096 - suc left) entries (put_behind f faults) m).stopped ≡ None
+        → (strikes_at (4096 - suc left) entries (put_after f faults) m).stopped ≡ None
     still f left entries faults m from stops none =
-        ap (λ (s : Struck). s.stopped) (strikes_behind f (4096 - suc left) entries faults m from stops) ∙ none
+        ap (λ (s : Struck). s.stopped) (strikes_after f (4096 - suc left) entries faults m from stops) ∙ none
 
--- of whole bursts
+-- the same of whole bursts
 
 pub burst_act_made : (deed : ℕ) (entries : List Entry) (faults : List Fault) (m : Machine) → deed < length (burst entries faults m).acts
     → acts_within (suc (turns_before deed entries faults m)) entries faults m ≡ take (suc deed) (burst entries faults m).acts
@@ -169,5 +169,5 @@ unfolding burst
 burst_crossing_last deed entries faults m low is = crossing_last deed 4096 entries faults m [] (omega arith) low is
 
 pub burst_turns_cut : (f : Fault) (entries : List Entry) (faults : List Fault) (m : Machine) → f.kind ≡ fault.Trap → IsRising 0 faults
-    → f.after < turns_of entries faults m → turns_of entries (put_behind f faults) m ≡ f.after
+    → f.after < turns_of entries faults m → turns_of entries (put_after f faults) m ≡ f.after
 burst_turns_cut f entries faults m kind rising below = turns_cut f 4096 entries faults m [] (omega arith) kind rising (omega arith) below

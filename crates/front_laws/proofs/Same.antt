@@ -39,7 +39,7 @@ use Rattle.part_defs.specs.State.{PartState}
 use Rattle.part_defs.specs.Steps.{after_arrival, burst_stepped, enabled, opening, stepped}
 use Rattle.front_laws.specs.Fronts.{IsSameRun, with_faults}
 
--- a step of a part with other faults: the part after it has these, and the event is the same
+-- a step of a part with other faults: the part after it has them too, and the event is the same
 abbrev pub carried : List Fault → Stepped → Stepped
 carried faults t = record t { state = with_own faults t.state }
 
@@ -64,7 +64,7 @@ admit_same : (faults : List Fault) (p : PartState) (c : CallEntry) (a : Admit)
     → after_admit (with_own faults p) c a ≡ carried faults (after_admit p c a)
 admit_same faults p c (admits.Reply a) = refl
 admit_same faults p c admits.TakeFrame = refl
-admit_same faults p c (admits.Enter place) = refl
+admit_same faults p c (admits.Enter index) = refl
 
 enter_same : (faults : List Fault) (p : PartState) (thread : ℕ) (o : Option CallEntry)
     → entered_by (with_own faults p) thread o ≡ carried faults (entered_by p thread o)
@@ -154,7 +154,7 @@ stage_by_same : (faults : List Fault) (p : PartState) (o : Option Stage) → sta
 stage_by_same faults p None = refl
 stage_by_same faults p (Some s) = stage_same faults p s
 
--- the step's burst, if it is one, is the same with these faults
+-- if the step is a burst, it is the same with these faults
 abbrev pub IsSameBurst : List Fault → PartState → Step → Type 0
 IsSameBurst faults p (step.Burst context) = domain_burst context (faults_of_burst (p.bursts + 1) faults) p.domain
     ≡ domain_burst context (faults_of_burst (p.bursts + 1) p.spec.faults) p.domain

@@ -1,4 +1,4 @@
--- Traps that are found one after another: the scenario with them is valid, and its run is the guarded run in the end.
+-- Traps that are found one by one: the scenario with them is valid, and its run is the guarded run in the end.
 use Rattle.std.proofs.Common.{◌≡◌, ◌⊎◌, ◌≤◌, ◌<◌, inl, inr, ℕ, zero, suc, ◌+◌, ◌-◌, List, [], ◌∷◌, ◌++◌, All, map, refl, sym, ap, subst, ◌∙◌, arith, append_assoc, append-nil}
 use Rattle.std.proofs.lemmas.Bool.{cases_lt}
 use Rattle.nook_data.specs.Members.{struck, struck_parts}
@@ -18,8 +18,8 @@ use Rattle.front_laws.proofs.Free.{free_runs}
 use Rattle.front_laws.proofs.Unique.{guarded_still}
 use Rattle.front_laws.proofs.ValidGuarded.{guarded_valid}
 
--- the scenario with these traps: for so many steps its run breaks nothing, and these steps of the guarded run are the
--- same with the traps and without; in them just these traps are found
+-- the scenario with these traps: for this number of steps its run breaks nothing, the guarded run is the same with the
+-- traps and without, and exactly these traps are found in it
 pub record IsChained (scenario with : Scenario) (stops : List Stop) (n : ℕ) : Type 0 where
   pub kept : NoneBreaks (runs n (begins with))
   pub same : guarded_runs n (begins with) ≡ guarded_runs n (begins scenario)
@@ -30,7 +30,7 @@ pub chain_starts : (scenario : Scenario) → IsChained scenario scenario [] zero
 unfolding runs guarded_runs stops_found
 chain_starts scenario = record { kept = guarded_keeps scenario zero; same = refl; found = refl; own = refl }
 
--- the next trap is of a later step
+-- the next trap belongs to a later step
 rises : (scenario with : Scenario) (stops : List Stop) (n : ℕ) (stop : Stop) → IsChained scenario with stops n
     → (h : IsFirstStop with stop) → n ≤ h.steps
 rises scenario with stops n stop chain h = by_order (cases_lt h.steps n)
@@ -43,13 +43,13 @@ rises scenario with stops n stop chain h = by_order (cases_lt h.steps n)
         absurd cc
     by_order (inr l) = l
 
--- so many steps later the guarded run is still the same
+-- after more steps the guarded run is still the same
 same_later : (scenario with : Scenario) (stops : List Stop) (n d m : ℕ) → IsChained scenario with stops n → m ≡ n + d
     → guarded_runs m (begins with) ≡ guarded_runs m (begins scenario)
 same_later scenario with stops n d m chain e =
     guarded_more n d m (begins with) e ∙ ap (guarded_runs d) chain.same ∙ sym (guarded_more n d m (begins scenario) e)
 
--- and what is found of it is found with the traps
+-- what is found in it is also found with the traps
 found_later : (scenario with : Scenario) (stops : List Stop) (n d m : ℕ) → IsChained scenario with stops n → m ≡ n + d
     → stops_found m (begins scenario) ≡ stops ++ stops_found m (begins with)
 found_later scenario with stops n d m chain e =
@@ -105,7 +105,7 @@ stopped_valid scenario stops valid room needed =
     let chain = chained scenario stops needed in
     subst IsValidScenario (chain_is scenario (stopped scenario stops) stops chain.0 chain.1) (guarded_valid scenario chain.0 valid room)
 
--- ---- where the scenario with the traps breaks nothing, its run is the guarded run
+-- ---- if the scenario with the traps breaks nothing, its run is the guarded run
 
 ends_in : (scenario with : Scenario) (stops : List Stop) (n : ℕ) (s : Simulation) → IsChained scenario with stops n
     → (run : IsScheduledRun with s) → NoneBreaks s → guarded_runs (n + run.steps) (begins scenario) ≡ s

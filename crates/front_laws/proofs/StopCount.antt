@@ -11,7 +11,7 @@ use Rattle.nook_data.specs.declared.steps.Step.{Step}
 use Rattle.guard_defs.specs.declared.stop.Stop.{Stop}
 use Rattle.guard_defs.specs.FirstBreaks.{AreNeeded}
 use Rattle.guard_defs.specs.Guard.{guard, guarded, traps_of}
-use Rattle.guard_defs.specs.GuardedRuns.{guarded_moved, guarded_runs, guarded_seat, guarded_taken, known_of, stop_at, stop_by, stop_made, stop_of, stops_found, told_clause}
+use Rattle.guard_defs.specs.GuardedRuns.{guarded_moved, guarded_runs, guarded_seat, guarded_taken, known_of, stop_at, stop_by, stop_made, stop_of, stops_found, reported_clause}
 use Rattle.part_defs.specs.State.{PartState}
 use Rattle.part_laws.proofs.DeviceStays.{opening_spec, spec_after}
 use Rattle.part_laws.proofs.ValidFits.{valid_fits}
@@ -28,7 +28,7 @@ use Rattle.front_laws.proofs.Owned.{order_of, pick_of}
 use Rattle.front_laws.proofs.StopChain.{chained}
 use Rattle.front_laws.proofs.ValidGuarded.{all_at}
 
--- ---- each trap that is found is a fault more
+-- ---- each trap that is found adds a fault
 
 abbrev fault_count : List RunningPart → ℕ
 fault_count [] = 0
@@ -49,15 +49,15 @@ stop_counts : (part : ℕ) (f : Fault) (o : Option Clause) → length (stop_of p
 stop_counts part f None = omega arith
 stop_counts part f (Some clause) = omega arith
 
-trap_counts : (part : ℕ) (p q : PartState) (s : Step) (o : Option Fault) (told : Option Clause) (n : ℕ) → IsTrapOf p s o q
-    → n ≡ length q.spec.faults → length p.spec.faults + length (stop_of part o told) ≤ n
-trap_counts part p q s None told n h e =
+trap_counts : (part : ℕ) (p q : PartState) (s : Step) (o : Option Fault) (reported : Option Clause) (n : ℕ) → IsTrapOf p s o q
+    → n ≡ length q.spec.faults → length p.spec.faults + length (stop_of part o reported) ≤ n
+trap_counts part p q s None reported n h e =
     let same : length q.spec.faults ≡ length p.spec.faults = ap (λ (r : PartState). length r.spec.faults) h in
     omega arith
-trap_counts part p q s (Some f) told n h e =
+trap_counts part p q s (Some f) reported n h e =
     let more : length q.spec.faults ≡ length p.spec.faults + 1 =
     ap (λ (r : PartState). length r.spec.faults) h.2 ∙ length-append p.spec.faults (f ∷ []) in
-    let few : length (stop_of part (Some f) told) ≤ 1 = stop_counts part f told in
+    let few : length (stop_of part (Some f) reported) ≤ 1 = stop_counts part f reported in
     omega arith
 
 seat_counts : (c : Choice) (seat : RunningPart)
@@ -65,7 +65,7 @@ seat_counts : (c : Choice) (seat : RunningPart)
 seat_counts c seat =
     let p : PartState = seat.run.state in
     let q : PartState = guarded p (known_of seat) c.step in
-    trap_counts c.part p q c.step (guard p (known_of seat) c.step) (told_clause p (known_of seat) c.step)
+    trap_counts c.part p q c.step (guard p (known_of seat) c.step) (reported_clause p (known_of seat) c.step)
     (length (part_after c.step (guarded_seat c.step seat)).run.state.spec.faults) (trap_is p (known_of seat) c.step)
     (ap (λ (spec : PartSpec). length spec.faults) (spec_after q c.step))
 
@@ -101,7 +101,7 @@ run_counts (suc more) s = by_choices (choices_of s) refl (run_counts more)
         length-append (stop_made s (c ∷ choices)) (stops_found more next) in
         omega arith
 
--- ---- and each part has as many more as its limit and one
+-- ---- each part gains at most its limit plus one
 
 abbrev own_count : List PartSpec → ℕ
 own_count [] = 0

@@ -1,9 +1,9 @@
--- What the headline says of a guarded part, and of each front of a journal.
+-- What the headline says of a guarded part, and of each prefix of a journal.
 use Rattle.std.proofs.Common.{◌≡◌, false, None, List, [], ◌++◌, refl, sym, ap, ◌∙◌, append-nil}
 use Rattle.nook_data.specs.Valid.{IsValidPart}
 use Rattle.nook_data.specs.declared.scenario.PartSpec.{PartSpec}
 use Rattle.nook_data.specs.declared.steps.Event.{Event}
-use Rattle.guard_defs.specs.Guard.{HasRoom, IsGuardedRun, traps_of, with_behind}
+use Rattle.guard_defs.specs.Guard.{HasRoom, IsGuardedRun, traps_of, with_after}
 use Rattle.headline_laws.proofs.Safe.{run_safe}
 use Rattle.headline_laws.specs.Headline.{IsTransparent}
 use Rattle.part_defs.specs.Runs.{IsRun, state_of}
@@ -21,8 +21,8 @@ front_transparent spec front back valid run kept alive =
     (run_safe spec (front ++ back) valid run).fronts front back refl kept alive
 
 pub guarded_transparent : (spec : PartSpec) (journal : List Event) → IsValidPart spec → HasRoom spec → IsGuardedRun spec journal
-    → is_dead (guarded_at spec journal).mode ≡ false → IsTransparent (with_behind (traps_of spec journal) spec) journal
+    → is_dead (guarded_at spec journal).mode ≡ false → IsTransparent (with_after (traps_of spec journal) spec) journal
 guarded_transparent spec journal valid room run alive =
     let well : IsGuardedWell spec journal = guarded_well spec journal (valid_fits spec valid) run in
-    (run_safe (with_behind (traps_of spec journal) spec) journal (valid_part spec journal valid room run) well.run).fronts
+    (run_safe (with_after (traps_of spec journal) spec) journal (valid_part spec journal valid room run) well.run).fronts
     journal [] (sym (append-nil journal)) well.kept (ap (λ (p : PartState). is_dead p.mode) well.state ∙ alive)

@@ -1,4 +1,4 @@
--- A journal that does not reach a fault is a run with it as without it.
+-- A journal that does not reach a fault is a run with it exactly if it is one without it.
 use Rattle.std.proofs.Common.{◌≡◌, ◌≤◌, ◌<◌, ℕ, ◌+◌, ◌==◌, Bool, true, false, cond, Option, Some, None, List, [], ◌∷◌, ◌++◌, refl, sym, ap, subst, ◌∙◌, arith}
 use Rattle.std.proofs.lemmas.Bool.{eqb-true}
 use Rattle.nook_data.specs.declared.machine.Context.{Context}
@@ -22,7 +22,7 @@ use Rattle.part_laws.proofs.RunBound.{count_more}
 use Rattle.part_laws.proofs.RunsDetermined.{step_named}
 use Rattle.part_laws.specs.Bound.{bursts_of_journal, is_burst}
 use Rattle.guard_defs.specs.Every.{turns_made}
-use Rattle.front_laws.specs.Fronts.{IsPast, IsPastFrom, IsSameRun, IsUnreached, put_behind}
+use Rattle.front_laws.specs.Fronts.{IsPast, IsPastFrom, IsSameRun, IsUnreached, put_after}
 use Rattle.front_laws.proofs.Ordered.{other_burst, own_burst}
 use Rattle.front_laws.proofs.Past.{burst_past}
 use Rattle.front_laws.proofs.Same.{AreSameBursts, IsSameBurst, same_run}
@@ -30,18 +30,18 @@ use Rattle.front_laws.proofs.Same.{AreSameBursts, IsSameBurst, same_run}
 -- a burst with a fault that it does not reach
 
 in_context : (f : Fault) (context : ℕ) (p : PartState) (o : Option Context) → turns_made p o ≤ f.after
-    → burst_by context (put_behind f (faults_of_burst (p.bursts + 1) p.spec.faults)) p.domain o
+    → burst_by context (put_after f (faults_of_burst (p.bursts + 1) p.spec.faults)) p.domain o
     ≡ burst_by context (faults_of_burst (p.bursts + 1) p.spec.faults) p.domain o
 in_context f context p None h = refl
 in_context f context p (Some x) h =
     ap (λ (b : Burst). after_burst context x b p.domain)
     (burst_past f p.domain.entries (faults_of_burst (p.bursts + 1) p.spec.faults) (machine_of x p.domain) h)
 
-pub behind_same : (f : Fault) (context : ℕ) (p : PartState) → turns_made p (context_of context p.domain.contexts) ≤ f.after
-    → domain_burst context (put_behind f (faults_of_burst (p.bursts + 1) p.spec.faults)) p.domain
+pub following_same : (f : Fault) (context : ℕ) (p : PartState) → turns_made p (context_of context p.domain.contexts) ≤ f.after
+    → domain_burst context (put_after f (faults_of_burst (p.bursts + 1) p.spec.faults)) p.domain
     ≡ domain_burst context (faults_of_burst (p.bursts + 1) p.spec.faults) p.domain
 unfolding domain_burst
-behind_same f context p h = in_context f context p (context_of context p.domain.contexts) h
+following_same f context p h = in_context f context p (context_of context p.domain.contexts) h
 
 pub past_same : (f : Fault) (p : PartState) (s : Step) → IsPast f p s → IsSameBurst (p.spec.faults ++ f ∷ []) p s
 past_same f p (step.Invoke thread o) h = tt
@@ -50,7 +50,7 @@ past_same f p step.Stage h = tt
 past_same f p (step.Arrive frame) h = tt
 past_same f p (step.Burst context) h = split (f.burst == (p.bursts + 1))
     (λ own. ap (λ (faults : List Fault). domain_burst context faults p.domain) (own_burst (p.bursts + 1) p.spec.faults f own)
-    ∙ behind_same f context p (h (sym (eqb-true f.burst (p.bursts + 1) own))))
+    ∙ following_same f context p (h (sym (eqb-true f.burst (p.bursts + 1) own))))
     (λ other. ap (λ (faults : List Fault). domain_burst context faults p.domain) (other_burst (p.bursts + 1) p.spec.faults f other))
 
 -- the events that do not reach it

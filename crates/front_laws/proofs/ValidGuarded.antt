@@ -1,4 +1,4 @@
--- The guarded scenario is valid, where its parts have room for the traps.
+-- The guarded scenario is valid if its parts have room for the traps.
 use Rattle.std.proofs.Common.{◌≡◌, ◌≤◌, ◌<◌, ◌^◌, ℕ, zero, suc, ◌+◌, Option, Some, None, List, [], ◌∷◌, ◌++◌, All, map, length, slice_get, refl, sym, ap, subst, ◌∙◌, arith, length-append, cond}
 use Rattle.std.proofs.lemmas.List.Elements.{All-append, All-from_recursion, recursion_from_All}
 use Rattle.std.specs.List.{AllByRecursion}
@@ -15,7 +15,7 @@ use Rattle.nook_data.specs.declared.steps.Event.{Event}
 use Rattle.nook_data.specs.declared.steps.Step.{Step}
 use Rattle.nook_data.specs.declared.steps.Step.TheVariants as step
 use Rattle.guard_defs.specs.Guard.{HasRoom, IsGuardedRun, guard, guard_trap, guarded, guarded_from, known_at_first, trap_for, traps_from, traps_of}
-use Rattle.guard_defs.specs.Guard.{with_behind, with_first}
+use Rattle.guard_defs.specs.Guard.{with_after, with_first}
 use Rattle.guard_defs.specs.GuardedRuns.{guarded_runs, guarded_scenario, spec_of}
 use Rattle.part_defs.specs.Runs.{event_of, state_after, state_of, step_of}
 use Rattle.part_defs.specs.State.{PartState}
@@ -27,27 +27,27 @@ use Rattle.promise_defs.specs.Contract.{Known, broken, known_after}
 use Rattle.run_defs.specs.Simulation.{RunningPart, Simulation, begins}
 use Rattle.front_laws.specs.Guarded.{IsGuardedWell, guarded_at}
 use Rattle.front_laws.specs.GuardedParts.{IsGuardedPart}
-use Rattle.front_laws.proofs.GuardRun.{IsTrapOf, bursts_low, fit_behind, guarded_well, trap_is}
+use Rattle.front_laws.proofs.GuardRun.{IsTrapOf, bursts_low, fit_following, guarded_well, trap_is}
 use Rattle.front_laws.proofs.GuardStep.{stopped}
 use Rattle.front_laws.proofs.GuardedParts.{guarded_part}
 use Rattle.front_laws.proofs.GuardedRuns.{AreOf, begins_of}
 use Rattle.front_laws.proofs.Unreached.{bursts_after, is_burst_step}
 
--- each trap is of a burst that was made, at a place that a burst can come to
+-- each trap belongs to a burst that was done, at a position that a burst can reach
 
 pub record IsTrapWithin (most : ℕ) (f : Fault) : Type 0 where
   pub numbered : 1 ≤ f.burst
   pub made : f.burst ≤ most
-  pub place : f.after ≤ 4095
+  pub point : f.after ≤ 4095
   pub kind : f.kind ≡ fault.Trap
 
 abbrev TrapFits : ℕ → Option Fault → Type 0
 TrapFits most None = Unit {0}
 TrapFits most (Some f) = IsTrapWithin most f
 
-place_of : (context : ℕ) (p : PartState) (k : Known) (clause : Clause) (more : List Clause)
+position_of : (context : ℕ) (p : PartState) (k : Known) (clause : Clause) (more : List Clause)
     → broken k (event_of p (step.Burst context)) ≡ clause ∷ more → (guard_trap context p k).after ≤ 4095
-place_of context p k clause more h = let low = (stopped context p k clause more h).within in omega arith
+position_of context p k clause more h = let low = (stopped context p k clause more h).within in omega arith
 
 trap_fits : (p : PartState) (k : Known) (s : Step) (most : ℕ) → p.bursts + cond (is_burst_step s) 1 0 ≤ most → TrapFits most (guard p k s)
 trap_fits p k (step.Invoke thread o) most h = tt
@@ -59,7 +59,7 @@ trap_fits p k (step.Burst context) most h = by_clauses (broken k (event_of p (st
     by_clauses : (cs : List Clause) → broken k (event_of p (step.Burst context)) ≡ cs → TrapFits most (trap_for cs (guard_trap context p k))
     by_clauses [] none = tt
     by_clauses (c ∷ more) some =
-        record { numbered = omega arith; made = omega arith; place = place_of context p k c more some; kind = refl }
+        record { numbered = omega arith; made = omega arith; point = position_of context p k c more some; kind = refl }
 
 first_fits : (most : ℕ) (o : Option Fault) (rest : List Fault) → TrapFits most o → AllByRecursion (IsTrapWithin most) rest
     → AllByRecursion (IsTrapWithin most) (with_first o rest)
@@ -97,7 +97,7 @@ traps_fit most p k (e ∷ events) h =
 valid_trap : (f : Fault) → IsTrapWithin (2 ^ 23) f → IsValidFault f
 valid_trap f h = record {
   burst = (h.numbered, let m = h.made in omega arith);
-  after = h.place;
+  after = h.point;
   kind = subst (λ k. IsValidKind k) (sym h.kind) tt;
 }
 
@@ -107,26 +107,26 @@ valid_traps (f ∷ faults) a = (valid_trap f a.0, valid_traps faults a.1)
 
 -- a part with its traps
 
-fits_behind : (c : Class) (spec : PartSpec) (faults : List Fault) → FitsClass c spec → FitsClass c (with_behind faults spec)
-fits_behind class.Block spec faults h = h
-fits_behind class.Net spec faults h = h
-fits_behind class.Sound spec faults h = h
+fits_after : (c : Class) (spec : PartSpec) (faults : List Fault) → FitsClass c spec → FitsClass c (with_after faults spec)
+fits_after class.Block spec faults h = h
+fits_after class.Net spec faults h = h
+fits_after class.Sound spec faults h = h
 
 pub valid_part : (spec : PartSpec) (journal : List Event) → IsValidPart spec → HasRoom spec → IsGuardedRun spec journal
-    → IsValidPart (with_behind (traps_of spec journal) spec)
+    → IsValidPart (with_after (traps_of spec journal) spec)
 valid_part spec journal valid room run =
     let fits : IsFitSpec spec = valid_fits spec valid in
     let traps : List Fault = traps_of spec journal in
     let well : IsGuardedWell spec journal = guarded_well spec journal fits run in
     let few : length traps ≤ spec.limit + 1 = well.few in
     let limit : spec.limit ≤ 16 = valid.limit in
-    let small : (state_of (with_behind traps spec) journal).bursts < 2 ^ 23 =
-    run_few_bursts (with_behind traps spec) journal (fit_behind spec traps fits) limit well.run in
-    let same : (state_of (with_behind traps spec) journal).bursts ≡ (guarded_at spec journal).bursts = ap (λ (p : PartState). p.bursts) well.state in
+    let small : (state_of (with_after traps spec) journal).bursts < 2 ^ 23 =
+    run_few_bursts (with_after traps spec) journal (fit_following spec traps fits) limit well.run in
+    let same : (state_of (with_after traps spec) journal).bursts ≡ (guarded_at spec journal).bursts = ap (λ (p : PartState). p.bursts) well.state in
     let sum : length (spec.faults ++ traps) ≡ length spec.faults + length traps = length-append spec.faults traps in
     record {
       name = valid.name;
-      fits = fits_behind spec.class spec traps valid.fits;
+      fits = fits_after spec.class spec traps valid.fits;
       bad_count = valid.bad_count;
       bad = valid.bad;
       limit = valid.limit;

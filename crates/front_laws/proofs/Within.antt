@@ -1,4 +1,4 @@
--- The acts before the turn of a deed are the acts before the deed.
+-- The acts before the instruction of a deed are the acts before the deed.
 use Rattle.std.proofs.Common.{◌≡◌, ◌≤◌, ◌<◌, ◌⊎◌, inl, inr, ℕ, zero, suc, ◌+◌, ◌-◌, Bool, true, false, nat_le, nat_lt, if◌then◌else◌, Option, Some, None, List, [], ◌++◌, length, take, refl, sym, ap, subst, ◌∙◌, arith, append_assoc, append-nil, length-append, take_at, take_all}
 use Rattle.std.proofs.lemmas.Bool.{le-leb, lt-leb, ltb-false, ltb-true}
 use Rattle.nook_data.specs.declared.entries.Entry.{Entry}
@@ -15,14 +15,14 @@ use Rattle.machine_defs.specs.Burst.{Burst, Going, Struck, acts_of, burst, burst
 use Rattle.machine_defs.specs.Devices.{Given, Taken, input_of, output_of}
 use Rattle.machine_defs.specs.Machine.{decode_of}
 use Rattle.machine_defs.specs.Pages.{fetch_word, may_write, read_word}
-use Rattle.machine_defs.specs.Turn.{Machine, Turn, executed, past_input, past_output, r, stores, turn}
+use Rattle.machine_defs.specs.Execution.{Machine, Executed, executed, past_input, past_output, r, stores, turn}
 use Rattle.std.specs.Prelude.{◌%◌, ◌^◌}
 use Rattle.front_laws.proofs.Past.{acts_after, acts_begin, acts_go, acts_stay, burst_after, burst_is, by_going, turns_low, turns_on, turns_over}
 use Rattle.front_laws.proofs.Striking.{by_option, one_turn_is, past_crossing, turn_stops, turn_turns}
 
--- a turn that crosses does no act
+-- an instruction that crosses does no act
 
-abbrev pub IsQuiet : Turn → Type 0
+abbrev pub IsQuiet : Executed → Type 0
 IsQuiet t = (c : BurstEnd) → t.crossing ≡ Some c → acts_of t.act ≡ []
 
 read_quiet : (m : Machine) (a address : ℕ) (o : Option ℕ) → IsQuiet (past_read m a address o)
@@ -59,7 +59,7 @@ turn_quiet : (entries : List Entry) (m : Machine) → IsQuiet (turn entries m)
 unfolding turn
 turn_quiet entries m = fetch_quiet entries m (fetch_word m.memory m.cpu.counter)
 
--- a turn adds at most one act, and none where it is a kernel call or a reply
+-- an instruction adds at most one act, and none if it is a kernel call or a reply
 
 abbrev pub is_crossing : BurstEnd → Bool
 is_crossing (ends.Kcall number) = true
@@ -95,7 +95,7 @@ turn_one left entries faults m acts none =
     (crossing_one left acts s.rest (turn entries s.machine).machine (turn entries s.machine).act (turn entries s.machine).crossing
     (turn_quiet entries s.machine))
 
--- the turns before a deed's
+-- the instructions before that of a deed
 
 abbrev pub to_after : ℕ → ℕ → List Entry → Going → ℕ
 to_after deed left entries (on m rest acts) = if nat_lt deed (length acts) then 4096 - suc left else turns_to deed left entries rest m acts
@@ -133,7 +133,7 @@ to_low deed (suc left) entries faults m acts h = by_going (one_turn left entries
     (let more : 4096 - left ≤ turns_to deed left entries rest m' acts' = to_low deed left entries rest m' acts' (omega arith) in omega arith)))
     (λ b e. rw (to_over deed left entries faults m acts b e) (omega arith))
 
--- a burst has the deed: an act of that place, or its crossing
+-- a burst has the deed: the act with that index, or its crossing
 abbrev pub HasDeed : ℕ → Burst → Type 0
 HasDeed deed b = (deed < length b.acts) ⊎ (is_crossing b.ending ≡ true)
 
@@ -239,7 +239,7 @@ before_from deed (suc left) entries faults m acts h low has =
     (λ b e. before_over deed left entries faults m acts b h low none e
     (subst (HasDeed deed) (burst_is left entries faults m acts ∙ ap (burst_after left entries) e) has)))
 
--- the turns before a deed's turn are turns of the burst, and have the acts before the deed
+-- the instructions before that of a deed are in the burst, and have the acts before the deed
 pub deed_reached : (deed : ℕ) (entries : List Entry) (faults : List Fault) (m : Machine) → HasDeed deed (burst entries faults m)
     → turns_before deed entries faults m < turns_of entries faults m
 unfolding burst

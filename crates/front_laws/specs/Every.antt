@@ -13,9 +13,9 @@ use Rattle.run_defs.specs.Simulation.{IsScheduledRun, Simulation, answer_table, 
 abbrev pub base_row : Scenario → Simulation → MemberRow
 base_row scenario s = row_of scenario.parts (journals_of s) (answer_table s)
 
--- one row for each fault, in their order, each of the run of the scenario whose part at a place has that fault too
+-- one row for each fault in order, for the run of the scenario whose part at an index has that fault too
 abbrev pub AreRowsOf : Scenario → ℕ → List Fault → List MemberRow → Type 0
-AreRowsOf scenario place faults rows = AllZip (λ f row. IsRowOf (struck scenario place f) row) faults rows
+AreRowsOf scenario index faults rows = AllZip (λ f row. IsRowOf (struck scenario index f) row) faults rows
 
 -- each row has status 0
 abbrev pub AllKept : List MemberRow → Type 0

@@ -9,10 +9,10 @@ use Rattle.part_defs.specs.Steps.{opening}
 use Rattle.promise_defs.specs.Contract.{Known, known_after}
 use Rattle.guard_defs.specs.Every.{turns_made}
 
--- What a fault leaves as it is of a guarded run.
+-- What a fault does not change in a guarded run.
 
--- a burst under the guard does not come to a fault: it makes at most as many turns as the fault is after, or the guard's
--- trap stands before the fault's place. At the trap's own place the fault would strike first
+-- a burst under the guard does not reach a fault: it executes at most as many instructions as precede the fault, or the
+-- guard's trap comes before the fault's position. At the same position the fault would strike first
 abbrev pub StaysBefore : Fault → PartState → ℕ → Option Fault → Type 0
 StaysBefore f p context None = turns_made p (context_of context p.domain.contexts) ≤ f.after
 StaysBefore f p context (Some stop) = stop.after < f.after
@@ -33,13 +33,13 @@ IsPastGuardedFrom f p k (e ∷ events) = IsPastGuarded f p k (step_of e)
 abbrev pub IsUnreachedGuarded : Fault → PartSpec → List Event → Type 0
 IsUnreachedGuarded f spec journal = IsPastGuardedFrom f (opening spec) (known_at_first spec) journal
 
--- a fault among the faults of a part, behind the first so many, which are the part's own
+-- a fault among the faults of a part, after this number of the part's own
 abbrev pub inserted : ℕ → Fault → List Fault → List Fault
 inserted count f faults = take count faults ++ f ∷ drop count faults
 
--- so it is of the part at a place, whose own faults are so many
+-- the same for the part at an index, which has this number of own faults
 abbrev pub inserted_at : ℕ → ℕ → Fault → ℕ → List Fault → List Fault
 inserted_at zero count f zero faults = inserted count f faults
 inserted_at zero count f (suc n) faults = faults
-inserted_at (suc place) count f zero faults = faults
-inserted_at (suc place) count f (suc n) faults = inserted_at place count f n faults
+inserted_at (suc index) count f zero faults = faults
+inserted_at (suc index) count f (suc n) faults = inserted_at index count f n faults

@@ -5,14 +5,14 @@ use Rattle.guard_defs.specs.GuardedRuns.{IsGuardedSchedule, guarded_scenario, st
 use Rattle.nook_data.specs.Types.{PartSpec, Scenario}
 use Rattle.run_defs.specs.Simulation.{Simulation, begins}
 
--- The traps of a guard that are found one after another, each in the scenario with those before it.
+-- The traps of a guard that are found one by one, each in the scenario with the earlier ones.
 
--- as many traps as the guard may put into these parts: one for each failure that a part is granted, and one
+-- the number of traps that the guard may put into these parts: one more than the failures that each part recovers from
 abbrev pub most_traps : List PartSpec → ℕ
 most_traps [] = 0
 most_traps (spec ∷ specs) = spec.limit + 1 + most_traps specs
 
--- the simulation is the scenario's whole guarded run, in which just these traps are found, in this order; and the
+-- the simulation is the scenario's whole guarded run, in which exactly these traps are found, in this order; and the
 -- scenario with these traps is the guarded scenario
 pub record IsGuardedBy (scenario : Scenario) (stops : List Stop) (s : Simulation) : Type 0 where
   pub guarded : IsGuardedSchedule scenario s

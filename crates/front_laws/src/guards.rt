@@ -1,4 +1,4 @@
-//! What the guard makes of a burst and of a part's run.
+//! What the guard changes in a burst and in a part's run.
 
 ghost use Rattle.front_laws.specs.Guarded.{IsFirstWrong, IsGuardedWell, IsNeeded, IsStopped, guarded_at, known_at};
 ghost use Rattle.guard_defs.specs.Deeds.{deeds_in};
@@ -14,41 +14,42 @@ ghost use Rattle.part_laws.specs.Fit.{IsFitSpec};
 ghost use Rattle.promise_defs.specs.Contract.{Known, broken, first_break};
 ghost use Rattle.std.specs.Prelude.{ℕ, List, None, [], ◌∷◌, ◌≡◌, true};
 
-/// Where a burst would break a clause, the guard's trap stands before the turn of the first deed that does: the burst
-/// keeps the acts before that deed, and no other; it answers nothing, fails by an injected trap, and breaks no clause.
+/// If a burst would break a clause, the guard puts a trap before the instruction of the first deed that does. The burst
+/// keeps just the acts before that deed, answers nothing, fails by an injected trap, and breaks no clause.
 pub fn the_guards_trap_keeps_what_comes_before_it()
     ensures { (context : ℕ) (p : PartState) (known : Known) (clause : Clause) (more : List Clause)
         → broken known (event_of p (Burst context)) ≡ clause ∷ more → IsStopped context p known }
 {}
 
-/// A guarded run of a part is a run of the part with the guard's traps behind its own faults, and it breaks no clause
-/// of the contract. Each trap is a failure, so there are at most as many as the limit and one.
+/// A guarded run of a part is a run of the part with the guard's traps after its own faults, and it breaks no clause of
+/// the contract. Each trap is a failure, so there are at most as many as the limit plus one.
 pub fn every_guarded_run_keeps_the_contract()
     ensures { (spec : PartSpec) (journal : List Event) → IsFitSpec spec → IsGuardedRun spec journal
         → IsGuardedWell spec journal }
 {}
 
-/// A run that breaks no clause is a guarded run, with no trap.
+/// A run that breaks no clause is a guarded run without a trap.
 pub fn a_run_that_breaks_nothing_has_no_trap()
     ensures { (spec : PartSpec) (journal : List Event) → IsRun spec journal
         → first_break spec.class spec.blocks journal ≡ None
         → IsGuardedRun spec journal × (traps_of spec journal ≡ []) }
 {}
 
-/// The trap stands before the first deed that breaks a clause, and the clause that is told is the smallest that this
-/// deed breaks.
-pub fn the_clause_told_is_the_smallest_of_the_first_wrong_deed()
+/// The trap comes before the first deed that breaks a clause, and the reported clause is the smallest that this deed
+/// breaks.
+pub fn the_clause_reported_is_the_smallest_of_the_first_wrong_deed()
     ensures { (context : ℕ) (p : PartState) (known : Known) (clause : Clause) (more : List Clause)
         → broken known (event_of p (Burst context)) ≡ clause ∷ more
         → IsFirstWrong (served_number context p) known (deeds_in (event_of p (Burst context))) }
 {}
 
-/// Each trap is needed: without it and those after it the run goes on by the burst as it is, and that is the first
+/// Each trap is needed: without it and the later ones, the run continues with the unchanged burst, which is the first
 /// event that breaks a clause.
 pub fn each_trap_is_needed()
     ensures { (spec : PartSpec) (front : List Event) (context : ℕ) (clause : Clause)
         (more : List Clause) → IsFitSpec spec → IsGuardedRun spec front
         → enabled (guarded_at spec front) (Burst context) ≡ true
-        → broken (known_at spec front) (event_of (guarded_at spec front) (Burst context)) ≡ clause ∷ more
+        → broken (known_at spec front) (event_of (guarded_at spec front) (Burst context)) ≡ clause
+        ∷ more
         → IsNeeded spec front context clause }
 {}

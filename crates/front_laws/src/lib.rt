@@ -1,5 +1,5 @@
-//! Laws of injected faults and of the guard: what a fault leaves as it is, what a trap cuts short, and what the guard's
-//! traps make of a run. Each is the contract of a function with an empty body.
+//! Laws of injected faults and of the guard: what a fault does not change, which bursts a trap ends early, and what the
+//! guard's traps change in a run. Each is the contract of a function with an empty body.
 #![tactic(auto)]
 
 pub mod every;

@@ -1,7 +1,7 @@
-//! What is promised with no premise on drivers, and of each front of a journal.
+//! What holds without a premise on drivers, and for each prefix of a journal.
 
 ghost use Rattle.front_laws.specs.Guarded.{guarded_at};
-ghost use Rattle.guard_defs.specs.Guard.{HasRoom, IsGuardedRun, traps_of, with_behind};
+ghost use Rattle.guard_defs.specs.Guard.{HasRoom, IsGuardedRun, traps_of, with_after};
 ghost use Rattle.headline_laws.specs.Headline.{IsTransparent};
 ghost use Rattle.nook_data.specs.Valid.{IsValidPart};
 ghost use Rattle.nook_data.specs.declared.scenario.PartSpec.{PartSpec};
@@ -11,18 +11,20 @@ ghost use Rattle.part_laws.specs.Facts.{is_dead};
 ghost use Rattle.promise_defs.specs.Contract.{first_break};
 ghost use Rattle.std.specs.Prelude.{List, None, ◌++◌, ◌≡◌, false};
 
-/// To its applications a guarded part that was not given up is a device that never fails, whatever its driver executes:
-/// no premise on drivers is left.
+/// For its applications a guarded part that was not given up is a device that never fails, whatever its driver
+/// executes. No premise on drivers remains.
 pub fn every_guarded_part_is_given_up_or_transparent()
     ensures { (spec : PartSpec) (journal : List Event) → IsValidPart spec → HasRoom spec
         → IsGuardedRun spec journal → is_dead (guarded_at spec journal).mode ≡ false
-        → IsTransparent (with_behind (traps_of spec journal) spec) journal }
+        → IsTransparent (with_after (traps_of spec journal) spec) journal }
 {}
 
-/// What is promised of a journal is promised of each front of it: as long as the driver kept its class's contract and
-/// the part was not given up, the applications saw a device that never fails, whatever came later.
+/// What is promised of a journal is promised of each of its prefixes: as long as the driver kept its class contract and
+/// the part was not given up, the applications saw a device that never fails, whatever happened later.
 pub fn each_front_of_a_journal_is_transparent()
-    ensures { (spec : PartSpec) (front back : List Event) → IsValidPart spec → IsRun spec (front ++ back)
-        → first_break spec.class spec.blocks front ≡ None → is_dead (state_of spec front).mode ≡ false
+    ensures { (spec : PartSpec) (front back : List Event) → IsValidPart spec
+        → IsRun spec (front ++ back)
+        → first_break spec.class spec.blocks front ≡ None
+        → is_dead (state_of spec front).mode ≡ false
         → IsTransparent spec front }
 {}

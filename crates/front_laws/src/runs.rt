@@ -17,38 +17,41 @@ ghost use Rattle.run_defs.specs.Simulation.{IsScheduledRun, RunningPart, Simulat
 ghost use Rattle.run_defs.specs.Simulation.{journals_of, runs};
 ghost use Rattle.std.specs.Prelude.{ℕ, All, Some, length, slice_get, ◌≡◌};
 
-/// A fault that a part's journal does not reach leaves the whole run of the scenario as it is: after as many steps the
-/// struck scenario's run is the same but for that fault. So the struck scenario's scheduled run has the same journals
-/// and answers.
+/// A fault that a part's journal does not reach does not change the run of the scenario: after as many steps the struck
+/// scenario's run is the same except for that fault. So the struck scenario's scheduled run has the same journals and
+/// answers.
 pub fn a_fault_that_is_not_reached_leaves_the_run()
-    ensures steps { (scenario : Scenario) (place : ℕ) (fault : Fault) (steps : ℕ) (spec : PartSpec)
-        (seat : RunningPart) → slice_get scenario.parts place ≡ Some spec
-        → slice_get (runs steps (begins scenario)).parts place ≡ Some seat
+    ensures steps { (scenario : Scenario) (index : ℕ) (fault : Fault) (steps : ℕ) (spec : PartSpec)
+        (seat : RunningPart) → slice_get scenario.parts index ≡ Some spec
+        → slice_get (runs steps (begins scenario)).parts index ≡ Some seat
         → IsUnreached fault spec seat.run.journal
-        → runs steps (begins (struck scenario place fault))
-        ≡ owned (struck_at place fault) (runs steps (begins scenario)) }
-    ensures whole { (scenario : Scenario) (place : ℕ) (fault : Fault) (s : Simulation) (spec : PartSpec)
-        (seat : RunningPart) → IsScheduledRun scenario s → slice_get scenario.parts place ≡ Some spec
-        → slice_get s.parts place ≡ Some seat → IsUnreached fault spec seat.run.journal
-        → IsScheduledRun (struck scenario place fault) (owned (struck_at place fault) s) }
-    ensures same { (place : ℕ) (fault : Fault) (s : Simulation)
-        → (journals_of (owned (struck_at place fault) s) ≡ journals_of s)
-        × (answer_table (owned (struck_at place fault) s) ≡ answer_table s) }
+        → runs steps (begins (struck scenario index fault))
+        ≡ owned (struck_at index fault) (runs steps (begins scenario)) }
+    ensures whole { (scenario : Scenario) (index : ℕ) (fault : Fault) (s : Simulation)
+        (spec : PartSpec)
+        (seat : RunningPart) → IsScheduledRun scenario s
+        → slice_get scenario.parts index ≡ Some spec
+        → slice_get s.parts index ≡ Some seat → IsUnreached fault spec seat.run.journal
+        → IsScheduledRun (struck scenario index fault) (owned (struck_at index fault) s) }
+    ensures same { (index : ℕ) (fault : Fault) (s : Simulation)
+        → (journals_of (owned (struck_at index fault) s) ≡ journals_of s)
+        × (answer_table (owned (struck_at index fault) s) ≡ answer_table s) }
 {}
 
-/// The guarded run of a scenario is the scheduled run of the guarded scenario, each part of which has its own faults
-/// and behind them the guard's traps. So what holds of every scheduled run holds of it.
+/// The guarded run of a scenario is the scheduled run of the guarded scenario, in which the guard's traps follow each
+/// part's own faults. So it has all properties of scheduled runs.
 pub fn the_guarded_run_is_a_scheduled_run()
     ensures { (scenario : Scenario) (s : Simulation) → IsGuardedSchedule scenario s
         → IsScheduledRun (guarded_scenario scenario s) s }
 {}
 
-/// Each part of a guarded run of a scenario has a guarded run, and its faults are its own with the guard's traps behind
-/// them. So its journal breaks no clause, and it has at most as many traps as its limit and one.
+/// Each part of a guarded run of a scenario has a guarded run, and its faults are its own, followed by the guard's
+/// traps. So its journal breaks no clause, and it has at most as many traps as its limit plus one.
 pub fn each_part_of_a_guarded_run_is_guarded()
-    ensures { (scenario : Scenario) (place : ℕ) (steps : ℕ) (spec : PartSpec) (seat : RunningPart)
-        → slice_get scenario.parts place ≡ Some spec
-        → slice_get (guarded_runs steps (begins scenario)).parts place ≡ Some seat → IsGuardedPart spec seat }
+    ensures { (scenario : Scenario) (index : ℕ) (steps : ℕ) (spec : PartSpec) (seat : RunningPart)
+        → slice_get scenario.parts index ≡ Some spec
+        → slice_get (guarded_runs steps (begins scenario)).parts index ≡ Some seat
+        → IsGuardedPart spec seat }
 {}
 
 /// A scenario has at most one guarded run.
@@ -57,50 +60,54 @@ pub fn a_scenario_has_one_guarded_run()
         → IsGuardedSchedule scenario t → s ≡ t }
 {}
 
-/// A scheduled run in which no part breaks a clause is the guarded run, so that it has no trap.
+/// A scheduled run in which no part breaks a clause is the guarded run, so it has no trap.
 pub fn a_scheduled_run_that_breaks_nothing_is_guarded()
     ensures { (scenario : Scenario) (s : Simulation) → IsScheduledRun scenario s → NoneBreaks s
         → IsGuardedSchedule scenario s }
 {}
 
-/// The guarded scenario of a valid scenario is valid, where each part's list of faults has room for the traps.
+/// The guarded scenario of a valid scenario is valid if each part's list of faults has room for the traps.
 pub fn the_guarded_scenario_is_valid()
-    ensures { (scenario : Scenario) (steps : ℕ) → IsValidScenario scenario → All HasRoom scenario.parts
+    ensures { (scenario : Scenario) (steps : ℕ) → IsValidScenario scenario
+        → All HasRoom scenario.parts
         → IsValidScenario (guarded_scenario scenario (guarded_runs steps (begins scenario))) }
 {}
 
-/// A fault that is put behind a part's own faults, and so before the guard's traps, and that no burst of the part's
-/// guarded run reaches, leaves the whole guarded run of the scenario as it is. A burst that the guard's trap ends does
-/// not reach it where the trap stands before its place; at the trap's own place it would strike first.
+/// A fault is put after a part's own faults and before the guard's traps. If no burst of the part's guarded run reaches
+/// it, it does not change the guarded run of the scenario. A burst that the guard's trap ends does not reach it if the
+/// trap is before its position; at the same position the fault would strike first.
 pub fn a_fault_that_is_not_reached_leaves_the_guarded_run()
-    ensures steps { (scenario : Scenario) (place : ℕ) (fault : Fault) (steps : ℕ) (spec : PartSpec)
-        (seat : RunningPart) → slice_get scenario.parts place ≡ Some spec
-        → slice_get (guarded_runs steps (begins scenario)).parts place ≡ Some seat
+    ensures steps { (scenario : Scenario) (index : ℕ) (fault : Fault) (steps : ℕ) (spec : PartSpec)
+        (seat : RunningPart) → slice_get scenario.parts index ≡ Some spec
+        → slice_get (guarded_runs steps (begins scenario)).parts index ≡ Some seat
         → IsUnreachedGuarded fault spec seat.run.journal
-        → guarded_runs steps (begins (struck scenario place fault))
-        ≡ owned (inserted_at place (length spec.faults) fault) (guarded_runs steps (begins scenario)) }
-    ensures whole { (scenario : Scenario) (place : ℕ) (fault : Fault) (s : Simulation) (spec : PartSpec)
-        (seat : RunningPart) → IsGuardedSchedule scenario s → slice_get scenario.parts place ≡ Some spec
-        → slice_get s.parts place ≡ Some seat → IsUnreachedGuarded fault spec seat.run.journal
-        → IsGuardedSchedule (struck scenario place fault)
-        (owned (inserted_at place (length spec.faults) fault) s) }
-    ensures same { (place : ℕ) (fault : Fault) (own : ℕ) (s : Simulation)
-        → (journals_of (owned (inserted_at place own fault) s) ≡ journals_of s)
-        × (answer_table (owned (inserted_at place own fault) s) ≡ answer_table s) }
+        → guarded_runs steps (begins (struck scenario index fault))
+        ≡ owned (inserted_at index (length spec.faults) fault)
+        (guarded_runs steps (begins scenario)) }
+    ensures whole { (scenario : Scenario) (index : ℕ) (fault : Fault) (s : Simulation)
+        (spec : PartSpec)
+        (seat : RunningPart) → IsGuardedSchedule scenario s
+        → slice_get scenario.parts index ≡ Some spec
+        → slice_get s.parts index ≡ Some seat → IsUnreachedGuarded fault spec seat.run.journal
+        → IsGuardedSchedule (struck scenario index fault)
+        (owned (inserted_at index (length spec.faults) fault) s) }
+    ensures same { (index : ℕ) (fault : Fault) (own : ℕ) (s : Simulation)
+        → (journals_of (owned (inserted_at index own fault) s) ≡ journals_of s)
+        × (answer_table (owned (inserted_at index own fault) s) ≡ answer_table s) }
 {}
 
-/// The guarded run may be made trap by trap: it is the guarded run of the scenario in which the part has its first trap
-/// from the start, behind its own faults. Up to the first burst that would break a clause it is the scheduled run, which
-/// the trap does not change; from that burst on both are the same.
+/// The guarded run can be made trap by trap: it is the guarded run of the scenario in which the part has its first trap
+/// from the start, after its own faults. Until the first burst that would break a clause it is the scheduled run, which
+/// the trap does not change; from that burst both are the same.
 pub fn the_first_trap_may_be_put_first()
-    ensures steps { (scenario : Scenario) (place : ℕ) (fault : Fault) (steps : ℕ)
-        → IsFirstTrap scenario place fault steps → IsPutFirst scenario place fault steps }
-    ensures there { (scenario : Scenario) (place : ℕ) (fault : Fault) (steps : ℕ) (s : Simulation)
-        → IsFirstTrap scenario place fault steps → IsGuardedSchedule (struck scenario place fault) s
+    ensures steps { (scenario : Scenario) (index : ℕ) (fault : Fault) (steps : ℕ)
+        → IsFirstTrap scenario index fault steps → IsPutFirst scenario index fault steps }
+    ensures there { (scenario : Scenario) (index : ℕ) (fault : Fault) (steps : ℕ) (s : Simulation)
+        → IsFirstTrap scenario index fault steps → IsGuardedSchedule (struck scenario index fault) s
         → IsGuardedSchedule scenario s }
-    ensures back { (scenario : Scenario) (place : ℕ) (fault : Fault) (steps : ℕ) (s : Simulation)
-        → IsFirstTrap scenario place fault steps → IsGuardedSchedule scenario s
-        → IsGuardedSchedule (struck scenario place fault) s }
-    ensures same { (scenario : Scenario) (place : ℕ) (fault : Fault) (s : Simulation)
-        → guarded_scenario (struck scenario place fault) s ≡ guarded_scenario scenario s }
+    ensures back { (scenario : Scenario) (index : ℕ) (fault : Fault) (steps : ℕ) (s : Simulation)
+        → IsFirstTrap scenario index fault steps → IsGuardedSchedule scenario s
+        → IsGuardedSchedule (struck scenario index fault) s }
+    ensures same { (scenario : Scenario) (index : ℕ) (fault : Fault) (s : Simulation)
+        → guarded_scenario (struck scenario index fault) s ≡ guarded_scenario scenario s }
 {}

@@ -6,7 +6,7 @@ use Rattle.promise_defs.specs.Contract.{Deed, Known, after_deed, breaks, call_of
 
 -- The first deed of a burst that breaks a clause. A deed is an act on the device, a frame handed up, or a reply.
 
--- the deeds of an event, in order: only bursts have any
+-- the deeds of an event, in order; only bursts have any
 abbrev pub deeds_in : Event → List Deed
 deeds_in (event.Burst context call burst count e done a failure) = deeds_of done e a failure
 deeds_in e = []
@@ -15,7 +15,7 @@ deeds_in e = []
 abbrev pub clause_of_deed : ℕ → Known → Deed → Option Clause
 clause_of_deed call k d = find (λ clause. breaks clause k (call_of call k.calls) d) all_clauses
 
--- how many deeds come before the first that breaks a clause; all of them where none does
+-- the number of deeds before the first that breaks a clause; all deeds if none does
 abbrev pub deeds_before : ℕ → Known → List Deed → ℕ
 deeds_before call k [] = 0
 deeds_before call k (d ∷ ds) = elim (clause_of_deed call k d) [

@@ -10,30 +10,30 @@ use Rattle.part_defs.specs.State.{PartState}
 use Rattle.part_defs.specs.Steps.{opening}
 use Rattle.promise_defs.specs.Contract.{Known, known_after}
 
--- Every single fault: some kinds of fault, each put behind a part's own faults at every burst and every turn at which it
--- strikes.
+-- Every single fault: each of some kinds of fault is added after a part's own faults, at every burst and every
+-- instruction at which it strikes.
 
--- the turns of the next burst of what runs in a context; none where nothing runs
+-- the number of instructions of the next burst of what runs in a context; 0 if nothing runs
 abbrev pub turns_made : PartState → Option Context → ℕ
 turns_made p None = 0
 turns_made p (Some x) = turns_of p.domain.entries (faults_of_burst (p.bursts + 1) p.spec.faults) (machine_of x p.domain)
 
--- a fault of a kind, in a burst, after so many turns
+-- a fault of a kind, in a burst, after this many instructions
 abbrev pub put_at : ℕ → ℕ → FaultKind → Fault
 put_at burst after kind = record { burst = burst; after = after; kind = kind }
 
--- in a burst each of some kinds of fault, before each of so many turns, the first of which comes after some
+-- each of some kinds of fault before each of this many instructions of a burst, the first of them after some others
 unfoldable pub faults_in : List FaultKind → ℕ → ℕ → ℕ → List Fault
 faults_in kinds burst after zero = []
 faults_in kinds burst after (suc turns) = map (put_at burst after) kinds ++ faults_in kinds burst (after + 1) turns
 
--- before how many turns of a burst a fault can strike: before each that is made; where the guard's trap ends the burst,
--- also before the trap
+-- the number of positions in a burst at which a fault can strike: before each executed instruction and, if the guard's
+-- trap ends the burst, also before the trap
 abbrev pub open_turns : PartState → ℕ → Option Fault → ℕ
 open_turns p context None = turns_made p (context_of context p.domain.contexts)
 open_turns p context (Some stop) = stop.after + 1
 
--- every fault of the kinds that strikes in a step, with the guard's trap of that step, where it has one
+-- every fault of the kinds that strikes in a step, given the guard's trap of that step, if any
 abbrev pub faults_of_step : List FaultKind → PartState → Option Fault → Step → List Fault
 faults_of_step kinds p stop (step.Burst context) = faults_in kinds (p.bursts + 1) 0 (open_turns p context stop)
 faults_of_step kinds p stop s = []
@@ -43,7 +43,7 @@ unfoldable pub every_from : List FaultKind → PartState → List Event → List
 every_from kinds p [] = []
 every_from kinds p (e ∷ events) = faults_of_step kinds p None (step_of e) ++ every_from kinds (state_after p (step_of e)) events
 
--- the same of the events of a guarded run, from a part on and what is known there
+-- every fault of the kinds that strikes in the events of a guarded run, from a part and what is known of it on
 unfoldable pub every_guarded_from : List FaultKind → PartState → Known → List Event → List Fault
 every_guarded_from kinds p k [] = []
 every_guarded_from kinds p k (e ∷ events) = faults_of_step kinds p (guard p k (step_of e)) (step_of e)

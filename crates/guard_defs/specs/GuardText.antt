@@ -4,7 +4,7 @@ use Rattle.guard_defs.specs.declared.stop.Stop.{Stop}
 
 -- The lines of a guard's traps.
 
--- the line of a trap: its part, its burst, the turns before it, and the clause that the deed would have broken
+-- the line of a trap: its part, burst and preceding instructions, and the clause that the deed would have broken
 abbrev pub guard_line : Stop → List ℕ
 guard_line stop =
     codes "guard " ++ decimal stop.part ++ codes " burst " ++ decimal stop.trap.burst

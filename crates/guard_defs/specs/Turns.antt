@@ -1,48 +1,48 @@
 use Rattle.std.specs.Prelude.{ℕ, zero, suc, ◌-◌, nat_le, nat_lt, if◌then◌else◌, Some, None, List, [], length}
 use Rattle.nook_data.specs.Types.{Act, Entry, Fault}
-use Rattle.nook_data.specs.declared.limits.TheConstants.{MOST_TURNS}
+use Rattle.nook_data.specs.declared.limits.TheConstants.{MOST_INSTRUCTIONS}
 use Rattle.machine_defs.specs.Burst.{on, over, one_turn, strikes_at}
-use Rattle.machine_defs.specs.Turn.{Machine}
+use Rattle.machine_defs.specs.Execution.{Machine}
 
--- The turns of a burst: how many it makes, what it does in the first of them, and which turn does an act.
+-- The instructions of a burst: how many it executes, what the first of them do, and which of them does an act.
 
--- how many turns a burst makes, with so many left. A trap or a hang of the script ends it before the turn of its place
+-- how many instructions a burst executes, with this many left; an injected trap or hang ends it before an instruction
 unfoldable pub turns_from : ℕ → List Entry → List Fault → Machine → List Act → ℕ
-turns_from zero entries faults m acts = MOST_TURNS
-turns_from (suc left) entries faults m acts = elim (strikes_at (MOST_TURNS - suc left) entries faults m).stopped [
-  | Some cause ↦ MOST_TURNS - suc left
+turns_from zero entries faults m acts = MOST_INSTRUCTIONS
+turns_from (suc left) entries faults m acts = elim (strikes_at (MOST_INSTRUCTIONS - suc left) entries faults m).stopped [
+  | Some cause ↦ MOST_INSTRUCTIONS - suc left
   | None ↦ elim (one_turn left entries faults m acts) [
     | on m' rest acts' ↦ turns_from left entries rest m' acts'
-    | over b ↦ MOST_TURNS - left
+    | over b ↦ MOST_INSTRUCTIONS - left
   ]
 ]
 
--- how many turns a burst makes
+-- how many instructions a burst executes
 abbrev pub turns_of : List Entry → List Fault → Machine → ℕ
-turns_of entries faults m = turns_from MOST_TURNS entries faults m []
+turns_of entries faults m = turns_from MOST_INSTRUCTIONS entries faults m []
 
--- the acts of a burst's first turns, with so many turns left and these acts so far
+-- the acts of a burst's first instructions, with this many instructions left and these acts so far
 unfoldable pub acts_from : ℕ → ℕ → List Entry → List Fault → Machine → List Act → List Act
 acts_from turns zero entries faults m acts = acts
-acts_from turns (suc left) entries faults m acts = if nat_le turns (MOST_TURNS - suc left) then acts
+acts_from turns (suc left) entries faults m acts = if nat_le turns (MOST_INSTRUCTIONS - suc left) then acts
     else elim (one_turn left entries faults m acts) [
       | on m' rest acts' ↦ acts_from turns left entries rest m' acts'
       | over b ↦ b.acts
     ]
 
--- the acts of the first turns of a burst
+-- the acts of the first instructions of a burst
 abbrev pub acts_within : ℕ → List Entry → List Fault → Machine → List Act
-acts_within turns entries faults m = acts_from turns MOST_TURNS entries faults m []
+acts_within turns entries faults m = acts_from turns MOST_INSTRUCTIONS entries faults m []
 
--- the turns before the one that does the act of a place, with so many left; before the last turn where it is not done
+-- with this many left, how many instructions precede the one that does an act by index, or the last if none does it
 unfoldable pub turns_to : ℕ → ℕ → List Entry → List Fault → Machine → List Act → ℕ
-turns_to place zero entries faults m acts = MOST_TURNS
-turns_to place (suc left) entries faults m acts = elim (one_turn left entries faults m acts) [
-  | on m' rest acts' ↦ if nat_lt place (length acts') then MOST_TURNS - suc left
-      else turns_to place left entries rest m' acts'
-  | over b ↦ MOST_TURNS - suc left
+turns_to index zero entries faults m acts = MOST_INSTRUCTIONS
+turns_to index (suc left) entries faults m acts = elim (one_turn left entries faults m acts) [
+  | on m' rest acts' ↦ if nat_lt index (length acts') then MOST_INSTRUCTIONS - suc left
+      else turns_to index left entries rest m' acts'
+  | over b ↦ MOST_INSTRUCTIONS - suc left
 ]
 
--- the turns that come before the one of a deed: of the act of that place, counted from 0, or of the burst's crossing
+-- how many instructions precede the one of a deed: the act with this index or, if there is none, the burst's crossing
 abbrev pub turns_before : ℕ → List Entry → List Fault → Machine → ℕ
-turns_before place entries faults m = turns_to place MOST_TURNS entries faults m []
+turns_before index entries faults m = turns_to index MOST_INSTRUCTIONS entries faults m []

@@ -4,7 +4,7 @@ use nook_data::clause::Clause;
 use nook_data::lists::Items;
 use nook_data::scenario::Fault;
 
-/// A trap that the guard put before a deed that would have broken a clause: the number of its part, the trap, and the
+/// A trap that the guard put before a deed that would have broken a clause: the index of its part, the trap, and the
 /// smallest clause that the deed would have broken.
 #[derive(Clone, Copy)]
 pub struct Stop {

@@ -8,19 +8,19 @@ use Rattle.machine_defs.specs.BurstFaults.{faults_of_burst}
 use Rattle.part_defs.specs.Domain.{context_of, machine_of}
 use Rattle.part_defs.specs.State.{DomainState}
 
--- The place of a trap, by the domain before the burst and the faults of the part.
+-- Where a trap strikes, by the domain before the burst and the faults of the part.
 
--- the turns of a burst that come before the one of a deed; 0 where nothing runs
+-- the number of instructions in a burst before the one of a deed; 0 if nothing runs
 abbrev pub turns_by : ℕ → List Fault → DomainState → Option Context → ℕ
-turns_by place faults d None = 0
-turns_by place faults d (Some x) = turns_before place d.entries faults (machine_of x d)
+turns_by index faults d None = 0
+turns_by index faults d (Some x) = turns_before index d.entries faults (machine_of x d)
 
--- the trap before the turn of an event's wrong deed, and the clause that this deed breaks; only bursts have deeds
+-- the trap before the instruction of an event's wrong deed, with the broken clause; only bursts have deeds
 abbrev pub stop_before : WrongDeed → Event → List Fault → DomainState → Option (Fault × Clause)
 stop_before wrong (event.Burst context call burst count e done a failure) faults d = Some (
   record {
     burst = burst;
-    after = turns_by wrong.place (faults_of_burst burst faults) d (context_of context d.contexts);
+    after = turns_by wrong.index (faults_of_burst burst faults) d (context_of context d.contexts);
     kind = fault.Trap;
   },
   wrong.clause,

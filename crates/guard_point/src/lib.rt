@@ -1,4 +1,4 @@
-//! Where the guard stops a burst: before the turn of its first deed that breaks a clause of its class's contract.
+//! Where the guard stops a burst: before the instruction of its first deed that breaks a clause of its class contract.
 #![tactic(auto)]
 
 mod stopping;

@@ -19,9 +19,9 @@ use nook_data::scenario::{Fault, FaultKind};
 use nook_data::steps::Event;
 use std::alloc::Global;
 
-/// The guard's trap of a burst, and the smallest clause that the deed behind it would have broken. `domain` is that of
+/// The guard's trap of a burst, and the smallest clause that the deed after it would have broken. `domain` is that of
 /// the part before the burst, `event` the burst's, `faults` those of the part, and `monitor` has seen the part's
-/// journal before the burst and found no break. `None` where the burst breaks nothing.
+/// journal before the burst and found no break. `None` if the burst breaks nothing.
 ///
 /// # Errors
 ///
@@ -41,7 +41,7 @@ pub fn stop_burst(
     }
 }
 
-/// The trap before the turn of a burst's deed, and the clause that the deed breaks.
+/// The trap before the instruction of a burst's deed, and the clause that the deed breaks.
 fn stop_before(
     alloc: Global,
     domain: Domain,
@@ -53,7 +53,7 @@ fn stop_before(
 {
     match event {
         Event::Burst { context, burst, .. } => {
-            let after = turns_in(alloc, domain, *context, *burst, faults, wrong.place)?;
+            let after = turns_in(alloc, domain, *context, *burst, faults, wrong.index)?;
             let trap = Fault {
                 burst: *burst,
                 after,
@@ -65,22 +65,22 @@ fn stop_before(
     }
 }
 
-/// The turns of a context's burst that come before the one of a deed; 0 where nothing runs in the context.
+/// The number of instructions in a context's burst before the one of a deed; 0 if nothing runs in the context.
 fn turns_in(
     alloc: Global,
     domain: Domain,
     context: u8,
     burst: u32,
     faults: &[Fault],
-    place: u64,
+    index: u64,
 ) -> Result<u32, NoMemory>
-    ensures { IfOk result (λ turns. turns ≡ turns_by place (faults_of_burst burst faults.now) domain.state
+    ensures { IfOk result (λ turns. turns ≡ turns_by index (faults_of_burst burst faults.now) domain.state
         (context_of context domain.state.contexts)) }
 {
     match domain.find_inside(context) {
         Some(inside) => {
             let script = script_of(alloc, faults)?;
-            turns_inside(alloc, domain, &inside, script.faults_at(burst), place)
+            turns_inside(alloc, domain, &inside, script.faults_at(burst), index)
         }
         None => Ok(0),
     }
@@ -95,19 +95,19 @@ fn script_of(alloc: Global, faults: &[Fault]) -> Result<FaultScript, NoMemory>
     FaultScript::new(Items::from_vec(own))
 }
 
-/// The turns of the burst of what runs in a context that come before the one of a deed. `faults` are those of the burst
-/// in the order in which they strike.
+/// The number of instructions before the one of a deed, in the burst of what runs in a context. `faults` are those of
+/// the burst in the order in which they strike.
 fn turns_inside(
     alloc: Global,
     domain: Domain,
     inside: &Context,
     faults: &[Fault],
-    place: u64,
+    index: u64,
 ) -> Result<u32, NoMemory>
     ensures { IfOk result (λ turns. turns
-        ≡ turns_before place domain.state.entries faults.now (machine_of inside.now domain.state)) }
+        ≡ turns_before index domain.state.entries faults.now (machine_of inside.now domain.state)) }
 {
     let mut cpu = inside.cpu;
     let mut bus = domain.detach();
-    turns_before(alloc, &mut cpu, &mut bus, faults, place)
+    turns_before(alloc, &mut cpu, &mut bus, faults, index)
 }

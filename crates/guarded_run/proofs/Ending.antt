@@ -9,7 +9,7 @@ use Rattle.nook_data.specs.declared.scenario.Scenario.{Scenario}
 use Rattle.run_defs.specs.Simulation.{Simulation, begins, choices_of}
 use Rattle.sim_run.proofs.Ending.{ends_by}
 
--- after so many steps the guarded run is the run of a valid scenario, which has ended by then
+-- after this many steps the guarded run is the run of a valid scenario, which has ended by then
 ended_by : (scenario : Scenario) (n : ℕ) → IsValidScenario scenario → All HasRoom scenario.parts → 2 ^ 26 ≤ n
     → IsGuardedSchedule scenario (guarded_runs n (begins scenario))
 ended_by scenario n valid room l =

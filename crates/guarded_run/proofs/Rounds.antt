@@ -1,4 +1,4 @@
--- The rounds in which a scenario is guarded: one trap more in each, until its run breaks nothing.
+-- The rounds in which a scenario is guarded: each adds one trap, until the run breaks nothing.
 use Rattle.std.proofs.Common.{◌≡◌, ◌≤◌, ℕ, ◌+◌, ◌*◌, List, [], ◌∷◌, ◌++◌, All, length, refl, sym, ap, subst, ◌∙◌, arith, length-append}
 use Rattle.std.proofs.lemmas.List.Elements.{recursion_from_All}
 use Rattle.std.specs.List.{AllByRecursion}
@@ -18,7 +18,7 @@ use Rattle.nook_data.specs.declared.scenario.PartSpec.{PartSpec}
 use Rattle.nook_data.specs.declared.scenario.Scenario.{Scenario}
 use Rattle.run_defs.specs.Simulation.{IsScheduledRun}
 
--- one trap more
+-- one more trap
 
 stopped_more : (scenario : Scenario) (stops : List Stop) (stop : Stop)
     → stopped scenario (stops ++ stop ∷ []) ≡ struck (stopped scenario stops) stop.part stop.trap
@@ -33,7 +33,7 @@ needed_more scenario [] stop needed first = (first, tt)
 needed_more scenario (x ∷ stops) stop needed first =
     (needed.0, needed_more (struck scenario x.part x.trap) stops stop needed.1 first)
 
--- what holds after so many rounds
+-- what holds after this many rounds
 
 pub record IsGuardedSoFar (scenario : Scenario) (rounds : ℕ) (made : Guarded) : Type 0 where
   pub stopped_is : made.scenario ≡ stopped scenario made.stops
@@ -83,7 +83,7 @@ rounds_end scenario rounds made None valid room h end others =
       valid = round_valid scenario rounds made valid room h;
     }
 
--- there are not so many rounds
+-- there are fewer rounds than this
 
 few_traps : (specs : List PartSpec) → AllByRecursion IsValidPart specs → most_traps specs ≤ 17 * length specs
 few_traps [] a = omega arith

@@ -20,15 +20,15 @@ use Rattle.run_laws.proofs.Choices.{IsGood, choices_good}
 use Rattle.sim_run.specs.Breaks.{IsWrongBurst}
 use Rattle.sim_run.specs.declared.breaking.WrongBurst.{WrongBurst}
 
--- the part that the scenario has at the place of a burst
+-- the scenario's part with the index of a burst
 wrong_spec : (scenario : Scenario) (wrong : WrongBurst) (w : IsWrongBurst scenario wrong)
     → slice_get scenario.parts wrong.part ≡ Some (spec_of w.seat)
 wrong_spec scenario wrong w = ap (slice_get scenario.parts) w.part ∙ spec_there scenario w.steps w.choice.part w.seat w.first.at
 
-pub wrong_place : (scenario : Scenario) (wrong : WrongBurst) → IsWrongBurst scenario wrong → wrong.part < length scenario.parts
-wrong_place scenario wrong w = slice_get_within scenario.parts wrong.part (spec_of w.seat) (wrong_spec scenario wrong w)
+pub wrong_index : (scenario : Scenario) (wrong : WrongBurst) → IsWrongBurst scenario wrong → wrong.part < length scenario.parts
+wrong_index scenario wrong w = slice_get_within scenario.parts wrong.part (spec_of w.seat) (wrong_spec scenario wrong w)
 
--- the burst may be made
+-- the burst may be run
 wrong_may : (scenario : Scenario) (wrong : WrongBurst) (w : IsWrongBurst scenario wrong)
     → enabled w.seat.run.state (step.Burst w.context) ≡ true
 wrong_may scenario wrong w =
@@ -54,7 +54,7 @@ wrong_trap : (scenario : Scenario) (wrong : WrongBurst) (w : IsWrongBurst scenar
 wrong_trap scenario wrong w =
     guard_is w.seat.run.state (known_of w.seat) (step.Burst w.context) w.context w.first.clause w.first.more refl w.first.breaks
 
--- there is one
+-- the burst has a trap
 pub some_stop : (scenario : Scenario) (wrong : WrongBurst) (part : PartSpec) (faults : List Fault) (stop : Option (Fault × Clause))
     → IsWrongBurst scenario wrong → slice_get scenario.parts wrong.part ≡ Some part → faults ≡ part.faults
     → StopsBurst wrong.domain.state wrong.event faults wrong.monitor stop → ((x : Fault × Clause) → stop ≡ Some x → ⊥) → ⊥
@@ -62,7 +62,7 @@ some_stop scenario wrong part faults (Some x) w at same stops none = none x refl
 some_stop scenario wrong part faults None w at same stops none =
     none_is_some (sym (wrong_stop scenario wrong w part faults None at same stops) ∙ wrong_trap scenario wrong w)
 
--- and it is the first of the scenario
+-- this trap is the first of the scenario
 pub first_stop : (scenario : Scenario) (wrong : WrongBurst) (part : PartSpec) (faults : List Fault) (trap : Fault) (clause : Clause)
     → IsWrongBurst scenario wrong → slice_get scenario.parts wrong.part ≡ Some part → faults ≡ part.faults
     → StopsBurst wrong.domain.state wrong.event faults wrong.monitor (Some (trap, clause))
@@ -81,5 +81,5 @@ first_stop scenario wrong part faults trap clause w at same stops =
       clause = h.1;
     }
 
-pub stop_place : (scenario : Scenario) (stop : Stop) → IsFirstStop scenario stop → stop.part < length scenario.parts
-stop_place scenario stop h = slice_get_within scenario.parts stop.part (first_trap scenario stop h).spec (first_trap scenario stop h).there
+pub stop_index : (scenario : Scenario) (stop : Stop) → IsFirstStop scenario stop → stop.part < length scenario.parts
+stop_index scenario stop h = slice_get_within scenario.parts stop.part (first_trap scenario stop h).spec (first_trap scenario stop h).there

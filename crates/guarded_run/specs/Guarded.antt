@@ -6,7 +6,7 @@ use Rattle.nook_data.specs.Types.{Scenario}
 use Rattle.nook_data.specs.Valid.{IsValidScenario}
 use Rattle.run_defs.specs.Simulation.{IsScheduledRun, Simulation, begins}
 
--- a scenario was guarded: what is made is its guarded scenario, whose scheduled run is its guarded run and breaks no
+-- a scenario was guarded: the result is its guarded scenario, whose scheduled run is its guarded run and breaks no
 -- clause; the traps are those of the guarded run, in the order in which it finds them, and each is needed
 pub record IsGuarded (scenario : Scenario) (made : Guarded) : Type 0 where
   pub simulation : Simulation

@@ -20,7 +20,7 @@ use std::alloc::Global;
 /// More rounds than a scenario has traps: each of at most 8 parts fails at most 17 times.
 const MOST_ROUNDS: u32 = 137;
 
-/// A scenario with the traps of its guard behind the faults of its parts, and these traps in the order in which they
+/// A scenario with its guard's traps added after the faults of its parts, and these traps in the order in which they
 /// were found.
 #[derive(Drop)]
 pub struct Guarded {
@@ -29,7 +29,7 @@ pub struct Guarded {
 }
 
 impl Guarded {
-    /// The scenario as it is, with no trap.
+    /// The scenario unchanged, with no trap.
     fn new(alloc: Global, scenario: &Scenario) -> Result<Guarded, NoMemory>
         ensures scenario { IfOk result (λ guarded. guarded.scenario ≡ scenario.now) }
         ensures stops { IfOk result (λ guarded. guarded.stops ≡ []) }
@@ -40,10 +40,11 @@ impl Guarded {
         })
     }
 
-    /// Puts a trap behind the faults of its part, and behind the traps that were found before.
+    /// Adds a trap after the faults of its part, and after the traps that were found before.
     fn add(&mut self, alloc: Global, stop: Stop) -> Result<(), NoMemory>
         requires { stop.part < length self.old.scenario.parts }
-        ensures scenario { OnOk result (self.new.scenario ≡ struck self.old.scenario stop.part stop.trap) }
+        ensures scenario { OnOk result
+            (self.new.scenario ≡ struck self.old.scenario stop.part stop.trap) }
         ensures stops { OnOk result (self.new.stops ≡ self.old.stops ++ stop ∷ []) }
     {
         strike(alloc, &mut self.scenario, stop.part, stop.trap)?;
@@ -51,8 +52,8 @@ impl Guarded {
     }
 }
 
-/// Guards a valid scenario, each part of which has room for the traps that it may need: runs it until its drivers break
-/// no clause of their contracts, with one trap more after each run that does.
+/// Guards a valid scenario, each part of which has room for the traps that it may need: runs it repeatedly, with one
+/// more trap each time, until its drivers break no clause of their contracts.
 ///
 /// # Errors
 ///
@@ -72,7 +73,7 @@ pub fn guard_scenario(alloc: Global, scenario: &Scenario) -> Result<Guarded, NoM
     unreachable!()
 }
 
-/// The guard's first trap of a valid scenario; `None` where its run breaks no clause.
+/// The guard's first trap of a valid scenario; `None` if its run breaks no clause.
 fn next_stop(alloc: Global, scenario: &Scenario) -> Result<Option<Stop>, NoMemory>
     requires { IsValidScenario scenario.now }
     ensures { IfOk result (IsNextStop scenario.now) }
@@ -101,19 +102,19 @@ fn stop_before(alloc: Global, scenario: &Scenario, wrong: WrongBurst) -> Result<
     Ok(Stop { part, trap, clause })
 }
 
-/// Puts a fault behind those that the part at a place has.
+/// Adds a fault after those of the part with this index.
 #[tactic(auto, using(crate::proofs::Striking::struck_by))]
-fn strike(alloc: Global, scenario: &mut Scenario, place: u32, fault: Fault) -> Result<(), NoMemory>
-    requires { place < length scenario.old.parts }
-    ensures { OnOk result (scenario.new ≡ struck scenario.old place fault) }
+fn strike(alloc: Global, scenario: &mut Scenario, index: u32, fault: Fault) -> Result<(), NoMemory>
+    requires { index < length scenario.old.parts }
+    ensures { OnOk result (scenario.new ≡ struck scenario.old index fault) }
 {
-    let place = place as usize;
-    let part = with_fault(alloc, scenario.parts.get(place), fault)?;
-    scenario.parts.set(place, part);
+    let index = index as usize;
+    let part = with_fault(alloc, scenario.parts.get(index), fault)?;
+    scenario.parts.set(index, part);
     Ok(())
 }
 
-/// A part with one more fault, behind its own.
+/// A part with one more fault, after its own.
 fn with_fault(alloc: Global, part: &PartSpec, fault: Fault) -> Result<PartSpec, NoMemory>
     ensures { IfOk result (λ made. made ≡ with_fault fault part.now) }
 {

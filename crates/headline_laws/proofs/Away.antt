@@ -57,9 +57,9 @@ use Rattle.part_laws.specs.Tied.{IsDriven, IsFitMode, IsFitStage, IsTied, is_dri
 use Rattle.headline_laws.proofs.BurstBounds.{burst_bounded}
 use Rattle.headline_laws.specs.Recoveries.{IsShadows, IsShort, is_away, is_stage, turns_of, while_away}
 
--- While the driver is away the part has so many stages left, and the shadow so many bursts.
+-- How many stages and how many bursts of the shadow remain while the driver is away.
 
--- ---- what a stage leaves
+-- ---- what remains at a stage
 
 abbrev stages_from : Stage → ℕ
 stages_from stage.Stop = 11
@@ -89,7 +89,7 @@ bursts_in mode.Running = 0
 bursts_in (mode.Recovering s) = bursts_from s
 bursts_in (mode.Dead collected) = 0
 
--- the stage of a call of the shadow's has begun
+-- the stage of a call of the shadow has begun
 abbrev begun : Option Context → ℕ
 begun None = 0
 begun (Some x) = 1
@@ -100,22 +100,22 @@ stages_left p = stages_in p.mode - begun (context_of 16 p.domain.contexts)
 abbrev bursts_left : PartState → ℕ
 bursts_left p = bursts_in p.mode - bursts_of (context_of 16 p.domain.contexts)
 
--- behind a failure nothing is counted
+-- nothing is counted after a failure
 abbrev unless : Bool → ℕ → ℕ
 unless true n = 0
 unless false n = n
 
--- a step takes its share
+-- a step reduces what remains by what it does
 record Shortens (p : PartState) (t : Stepped) : Type 0 where
   stages : cond (is_stage t.event) 1 0 + unless (carries_failure t.event) (stages_left t.state) ≤ stages_left p
   bursts : cond (is_burst t.event) 1 0 + unless (carries_failure t.event) (bursts_left t.state) ≤ bursts_left p
 
--- a crossing of the shadow's takes none
+-- after a crossing of the shadow's call no more remains than before
 record Keeps (stages bursts : ℕ) (c : Crossed) : Type 0 where
   stages' : unless (is_some c.failure) (stages_left c.state) ≤ stages
   bursts' : unless (is_some c.failure) (bursts_left c.state) ≤ bursts
 
--- ---- the stage behind a replay
+-- ---- the stage after a replay
 
 record IsNext (stages bursts : ℕ) (s : Stage) : Type 0 where
   stages' : stages_from s ≤ stages
@@ -193,7 +193,7 @@ next_mode_left (mode.Dead collected) p d f = absurd (true≢false (sym d))
 
 -- ---- a burst of the shadow's call
 
--- the part behind the burst, before its crossing
+-- the part after the burst, before its crossing
 record IsOwn (p : PartState) (y : Context) : Type 0 where
   driving : is_driving p.mode ≡ true
   stages : IsFitMode p.mode
@@ -223,8 +223,8 @@ with_result_set : (word : ℕ) (o : Option Context) (y : Context) → o ≡ Some
 with_result_set word o y e =
     (record y { cpu = record y.cpu { registers = slice_set y.cpu.registers 1 word } }, ap (with_result word) e, refl)
 
-shadow_place : (n : ℕ) → n ≡ 17 → 16 < n
-shadow_place n e = omega arith
+shadow_position : (n : ℕ) → n ≡ 17 → 16 < n
+shadow_position n e = omega arith
 
 served_keeps : (number : ℕ) (p : PartState) (y : Context) (r : Result Service BadParam) → IsOwn p y
     → Keeps (stages_left p) (bursts_left p) (serve_by number 16 p r)
@@ -236,7 +236,7 @@ served_keeps number p y (Ok s) b =
     let d : DomainState = result_set 16 v.answer (record p.domain { memory = v.memory; entries = v.entries }) in
     goes_on_keeps p (record p { domain = d; queue = v.queue }) _ y r.0 refl b.context
     (context_set_same p.domain.contexts 16 (with_result v.answer (context_of 16 p.domain.contexts))
-    (shadow_place (length p.domain.contexts) b.contexts) ∙ r.1)
+    (shadow_position (length p.domain.contexts) b.contexts) ∙ r.1)
     r.2
 
 replied_keeps : (p : PartState) (y : Context) (e : End) → IsOwn p y
@@ -244,7 +244,7 @@ replied_keeps : (p : PartState) (y : Context) (e : End) → IsOwn p y
 unfolding next_stage left_domain
 replied_keeps p y e b =
     let freed : context_of 16 (slice_set p.domain.contexts 16 no_context) ≡ None =
-    context_set_same p.domain.contexts 16 no_context (shadow_place (length p.domain.contexts) b.contexts) in
+    context_set_same p.domain.contexts 16 no_context (shadow_position (length p.domain.contexts) b.contexts) in
     let n = next_mode_left p.mode p b.driving b.stages in
     let s : stages_in (next_mode p.mode p) ≤ stages_in p.mode - 1 = n.0 in
     let m : bursts_in (next_mode p.mode p) ≤ bursts_in p.mode - 32 = n.1 in
@@ -278,7 +278,7 @@ own_burst p x b f t ctx low driving =
     let contexts : List (Option Context) = slice_set p.domain.contexts 16 (Some y) in
     let p' : PartState = with_burst (after_burst 16 x b p.domain).domain p in
     let here : context_of 16 contexts ≡ Some y =
-    context_set_same p.domain.contexts 16 (Some y) (shadow_place (length p.domain.contexts) f.domain.contexts) in
+    context_set_same p.domain.contexts 16 (Some y) (shadow_position (length p.domain.contexts) f.domain.contexts) in
     let own : IsOwn p' y = record {
       driving = driving;
       stages = t.stages;
@@ -352,7 +352,7 @@ begins : (p q : PartState) (s : Stage) (x : Context) → context_of 16 p.domain.
 begins p q s x was room sets fresh same enough =
     let is : context_of 16 q.domain.contexts ≡ Some x =
     ap (context_of 16) sets
-    ∙ context_set_same p.domain.contexts 16 (Some x) (shadow_place (length p.domain.contexts) room) in
+    ∙ context_set_same p.domain.contexts 16 (Some x) (shadow_position (length p.domain.contexts) room) in
     let a : begun (context_of 16 p.domain.contexts) ≡ 0 = ap begun was in
     let b : bursts_of (context_of 16 p.domain.contexts) ≡ 0 = ap bursts_of was in
     let c : begun (context_of 16 q.domain.contexts) ≡ 1 = ap begun is in
@@ -477,7 +477,7 @@ counts_from p (e ∷ events) f t r = split (is_away p.mode)
         let mb : count_by is_burst (while_away q events) ≤ bursts_left q = more.1 in
         (omega arith, omega arith)
 
--- the turns of an event
+-- the instructions of an event
 domain_turns : (context : ℕ) (faults : List Fault) (d : DomainState) → (domain_burst context faults d).count ≤ 4096
 unfolding domain_burst
 domain_turns context faults d = by_context (context_of context d.contexts)

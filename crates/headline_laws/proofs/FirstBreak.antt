@@ -11,17 +11,17 @@ use Rattle.promise_defs.specs.Contract.{Known, break_from, broken, first_break, 
 use Rattle.promise_defs.proofs.PromiseChanges.{break_or}
 use Rattle.part_laws.specs.Bound.{is_burst}
 
--- What stands before the first break.
+-- The events before the first break.
 
--- the first break is of a burst, behind a front without a break
-pub record IsBrokenAt (place : ℕ) (k : Known) (events : List Event) (b : Break) : Type 0 where
+-- the first break is at an event after a prefix without a break
+pub record IsBrokenAt (position : ℕ) (k : Known) (events : List Event) (b : Break) : Type 0 where
   pub front : List Event
   pub event : Event
   pub back : List Event
   pub parts : events ≡ front ++ event ∷ back
-  pub number : b.event ≡ place + length front
-  pub kept : break_from place k front ≡ None
-  pub next : break_from place k (front ++ event ∷ []) ≡ Some b
+  pub number : b.event ≡ position + length front
+  pub kept : break_from position k front ≡ None
+  pub next : break_from position k (front ++ event ∷ []) ≡ Some b
   pub burst : is_burst event ≡ true
 
 only_bursts : (k : Known) (e : Event) (clause : Clause) (more : List Clause) → broken k e ≡ clause ∷ more
@@ -32,34 +32,34 @@ only_bursts k (event.Burst context call burst count e acts answer failure) claus
 only_bursts k (event.Stage s answers released) clause more h = absurd cc
 only_bursts k (event.Arrive frame kept) clause more h = absurd cc
 
-pub broken_at : (place : ℕ) (k : Known) (events : List Event) (b : Break) → break_from place k events ≡ Some b
-    → IsBrokenAt place k events b
+pub broken_at : (position : ℕ) (k : Known) (events : List Event) (b : Break) → break_from position k events ≡ Some b
+    → IsBrokenAt position k events b
 unfolding break_from
-broken_at place k [] b h = absurd cc
-broken_at place k (e ∷ events) b h =
-    by_clauses (broken k e) refl h (λ later. broken_at (suc place) (known_after k e) events b later)
+broken_at position k [] b h = absurd cc
+broken_at position k (e ∷ events) b h =
+    by_clauses (broken k e) refl h (λ later. broken_at (suc position) (known_after k e) events b later)
   where
     by_clauses : (cs : List Clause) → broken k e ≡ cs
-        → break_or place cs (break_from (suc place) (known_after k e) events) ≡ Some b
-        → (break_from (suc place) (known_after k e) events ≡ Some b → IsBrokenAt (suc place) (known_after k e) events b)
-        → IsBrokenAt place k (e ∷ events) b
-    by_clauses [] same told more =
-        let later : IsBrokenAt (suc place) (known_after k e) events b = more told in
-        let n : b.event ≡ suc place + length later.front = later.number in
+        → break_or position cs (break_from (suc position) (known_after k e) events) ≡ Some b
+        → (break_from (suc position) (known_after k e) events ≡ Some b → IsBrokenAt (suc position) (known_after k e) events b)
+        → IsBrokenAt position k (e ∷ events) b
+    by_clauses [] same reported more =
+        let later : IsBrokenAt (suc position) (known_after k e) events b = more reported in
+        let n : b.event ≡ suc position + length later.front = later.number in
         record {
           front = e ∷ later.front;
           event = later.event;
           back = later.back;
           parts = ap (λ (l : List Event). e ∷ l) later.parts;
           number = omega arith;
-          kept = ap (λ (cs : List Clause). break_or place cs
-              (break_from (suc place) (known_after k e) later.front)) same ∙ later.kept;
-          next = ap (λ (cs : List Clause). break_or place cs
-              (break_from (suc place) (known_after k e) (later.front ++ later.event ∷ []))) same ∙ later.next;
+          kept = ap (λ (cs : List Clause). break_or position cs
+              (break_from (suc position) (known_after k e) later.front)) same ∙ later.kept;
+          next = ap (λ (cs : List Clause). break_or position cs
+              (break_from (suc position) (known_after k e) (later.front ++ later.event ∷ []))) same ∙ later.next;
           burst = later.burst;
         }
-    by_clauses (clause ∷ others) same told more =
-        let n : place ≡ b.event = ap (λ (x : Break). x.event) (same_inside told) in
+    by_clauses (clause ∷ others) same reported more =
+        let n : position ≡ b.event = ap (λ (x : Break). x.event) (same_inside reported) in
         record {
           front = [];
           event = e;
@@ -67,11 +67,11 @@ broken_at place k (e ∷ events) b h =
           parts = refl;
           number = omega arith;
           kept = refl;
-          next = ap (λ (cs : List Clause). break_or place cs None) same ∙ told;
+          next = ap (λ (cs : List Clause). break_or position cs None) same ∙ reported;
           burst = only_bursts k e clause others same;
         }
 
--- the events before the first break are those of the front
+-- the events before the first break are this prefix
 pub before_break : (class : Class) (size : ℕ) (events : List Event) (b : Break)
     → (x : IsBrokenAt 1 (known_first class size) events b) → take (b.event - 1) events ≡ x.front
 before_break class size events b x =

@@ -9,7 +9,7 @@ use Rattle.part_laws.proofs.StepsFit.{run_fit}
 use Rattle.part_laws.specs.Fit.{IsFit, IsFitSpec}
 use Rattle.part_laws.specs.Tied.{IsTied}
 
--- Fronts of runs.
+-- Prefixes of runs.
 
 run_split : (p : PartState) (front back : List Event) → IsRunFrom p (front ++ back)
     → IsRunFrom p front × IsRunFrom (state_from p front) back
@@ -25,7 +25,7 @@ unfolding state_from
 state_parts p [] back = refl
 state_parts p (e ∷ front) back = state_parts (state_after p (step_of e)) front back
 
--- a front of a run is a run, the part behind it is as every part, and the rest is a run from there on
+-- a prefix of a run is a run, the part after it has the invariants of parts, and the rest is a run from there
 pub record IsFrontOf (spec : PartSpec) (front back : List Event) : Type 0 where
   pub run : IsRun spec front
   pub fit : IsFit (state_of spec front)

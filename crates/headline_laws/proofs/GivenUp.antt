@@ -46,7 +46,7 @@ use Rattle.part_defs.specs.Steps.{after_arrival, burst_stepped, enabled, is_driv
 use Rattle.part_defs.specs.Steps.{stepped}
 use Rattle.part_laws.proofs.Counts.{counted_from}
 use Rattle.part_laws.proofs.DeviceStays.{spec_after}
-use Rattle.part_laws.proofs.Places.{split}
+use Rattle.part_laws.proofs.Indices.{split}
 use Rattle.part_laws.proofs.Recovered.{gone_stays}
 use Rattle.part_laws.proofs.RunBound.{count_more}
 use Rattle.part_laws.proofs.Stages.{with_mode}
@@ -56,7 +56,7 @@ use Rattle.part_laws.specs.Recovery.{Gone}
 use Rattle.part_laws.specs.Tied.{IsDriven, IsTied}
 use Rattle.headline_laws.specs.GivenUp.{IsGivingUp, IsOfGivenUp, answer_given_up}
 
--- Where a part is given up, and what it answers from there on.
+-- When a part is given up, and what it answers after that.
 
 -- ---- only a Stop gives a part up
 
@@ -87,7 +87,7 @@ reply_mode status p (Some c) h = by_accept (accept c.op status)
     by_accept (accepts.IoError block) = h
     by_accept (accepts.Fail cause) = refl
 
--- a choice by a test, where each way leaves the part alive
+-- a choice by a test, if both branches leave the part alive
 either_lives : (b : Bool) (x y : Crossed) → is_dead x.state.mode ≡ false → is_dead y.state.mode ≡ false
     → is_dead (if b then x else y).state.mode ≡ false
 either_lives true x y h k = h
@@ -152,7 +152,7 @@ invoke_mode p t o (Some a) = refl
 admit_mode : (p : PartState) (c : CallEntry) (a : Admit) → (after_admit p c a).state.mode ≡ p.mode
 admit_mode p c (admits.Reply a) = refl
 admit_mode p c admits.TakeFrame = refl
-admit_mode p c (admits.Enter place) = refl
+admit_mode p c (admits.Enter index) = refl
 
 enter_mode : (p : PartState) (t : ℕ) (o : Option CallEntry) → (entered_by p t o).state.mode ≡ p.mode
 enter_mode p t None = refl
@@ -176,7 +176,7 @@ gives_up p (step.Burst context) a d =
 gives_up p step.Stage a d = stage_gives_up p.mode p a d
 gives_up p (step.Arrive frame) a d = absurd (true≢false (sym d ∙ a))
 
--- ---- what was given up
+-- ---- a part that was given up
 
 dead_runs : (m : Mode) → is_dead m ≡ true → is_running m ≡ true → ⊥
 dead_runs (mode.Dead collected) d r = absurd cc
@@ -191,7 +191,7 @@ dead_driven (mode.Boot s) (Some x) d h = absurd cc
 dead_driven mode.Running (Some x) d h = absurd cc
 dead_driven (mode.Recovering s) (Some x) d h = absurd cc
 
--- nothing is driven in it
+-- it drives nothing
 pub dead_gone : (p : PartState) → IsTied p → is_dead p.mode ≡ true → Gone p
 dead_gone p t d = (d, dead_driven p.mode (context_of 16 p.domain.contexts) d t.driven)
 
@@ -212,9 +212,9 @@ gone_enters p thread g e =
 
 -- ---- its answers
 
-abbrev told_in : Event → Option Answer
-told_in (event.Invoke call thread o a) = a
-told_in _ = None
+abbrev reported_in : Event → Option Answer
+reported_in (event.Invoke call thread o a) = a
+reported_in _ = None
 
 dead_answer : (m : Mode) (t : ℕ) (o : Op) (p : PartState) → is_dead m ≡ true
     → answer_in m t o p ≡ Some (answered.Gone p.failures)
@@ -223,12 +223,12 @@ dead_answer mode.Running t o p d = absurd cc
 dead_answer (mode.Recovering s) t o p d = absurd cc
 dead_answer (mode.Dead collected) t o p d = refl
 
-dead_told : (p : PartState) (t : ℕ) (o : Op) → is_dead p.mode ≡ true
-    → told_in (event_of p (step.Invoke t o)) ≡ Some (answer_given_up p.spec p.failures o)
+dead_reported : (p : PartState) (t : ℕ) (o : Op) → is_dead p.mode ≡ true
+    → reported_in (event_of p (step.Invoke t o)) ≡ Some (answer_given_up p.spec p.failures o)
 unfolding stepped after_invoke
-dead_told p t o d = by_check (static_check p.spec.class p.spec.blocks o)
+dead_reported p t o d = by_check (static_check p.spec.class p.spec.blocks o)
   where
-    by_check : (r : Option Answer) → told_in (invoked_by p t o r).event ≡ Some (unwrap_or r (answered.Gone p.failures))
+    by_check : (r : Option Answer) → reported_in (invoked_by p t o r).event ≡ Some (unwrap_or r (answered.Gone p.failures))
     by_check None = dead_answer p.mode t o p d
     by_check (Some a) = refl
 
@@ -236,12 +236,12 @@ abbrev answers_in : Event → List (ℕ × Answer)
 answers_in (event.Stage s answers released) = answers
 answers_in _ = []
 
-abbrev stage_told : Event → Stage
-stage_told (event.Stage s answers released) = s
-stage_told _ = stage.Collect
+abbrev stage_reported : Event → Stage
+stage_reported (event.Stage s answers released) = s
+stage_reported _ = stage.Collect
 
 dead_stage : (m : Mode) (p : PartState) → is_dead m ≡ true → is_some (stage_due m) ≡ true
-    → (stage_told (stage_stepped (with_mode m p)).event ≡ stage.Collect)
+    → (stage_reported (stage_stepped (with_mode m p)).event ≡ stage.Collect)
     × (answers_in (stage_stepped (with_mode m p)).event ≡ [])
 unfolding stage_stepped collects
 dead_stage (mode.Dead false) p d s = (refl, refl)
@@ -257,12 +257,12 @@ stage_due_of p e = (and_parts (is_some (stage_due p.mode)) (not (is_driven p)) e
 event_given_up : (p : PartState) (e : Event) → Gone p → enabled p (step_of e) ≡ true → event_of p (step_of e) ≡ e
     → IsOfGivenUp p.spec p.failures e
 unfolding stepped
-event_given_up p (event.Invoke call t o a) g may same = sym (ap told_in same) ∙ dead_told p t o g.0
+event_given_up p (event.Invoke call t o a) g may same = sym (ap reported_in same) ∙ dead_reported p t o g.0
 event_given_up p (event.Enter call t attempt a) g may same = gone_enters p t g may
 event_given_up p (event.Burst context call burst count end acts a failure) g may same = gone_bursts p context g may
 event_given_up p (event.Stage s answers released) g may same =
-    let told = dead_stage p.mode p g.0 (stage_due_of p may) in
-    (sym (ap stage_told same) ∙ told.0, sym (ap answers_in same) ∙ told.1)
+    let reported = dead_stage p.mode p g.0 (stage_due_of p may) in
+    (sym (ap stage_reported same) ∙ reported.0, sym (ap answers_in same) ∙ reported.1)
 event_given_up p (event.Arrive frame kept) g may same = tt
 
 no_failure : (p : PartState) (e : Event) → Gone p → enabled p (step_of e) ≡ true → carries_failure e ≡ false
@@ -276,7 +276,7 @@ none_counted : (b : Bool) → b ≡ false → cond b 1 0 ≤ 0
 none_counted true h = absurd cc
 none_counted false h = omega arith
 
--- its count of failures stays
+-- its count of failures does not change
 same_failures : (p : PartState) (e : Event) → Gone p → enabled p (step_of e) ≡ true → event_of p (step_of e) ≡ e
     → (state_after p (step_of e)).failures ≡ p.failures
 unfolding IsRunFrom state_from

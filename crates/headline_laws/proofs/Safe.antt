@@ -12,7 +12,7 @@ use Rattle.part_defs.specs.State.{PartState}
 use Rattle.part_defs.specs.Steps.{opening}
 use Rattle.part_laws.proofs.Counts.{run_measured}
 use Rattle.part_laws.proofs.DeviceStays.{run_spec}
-use Rattle.part_laws.proofs.Places.{split}
+use Rattle.part_laws.proofs.Indices.{split}
 use Rattle.part_laws.proofs.ReadAloud.{kept_agrees, kept_licensed, kept_shows_one_run}
 use Rattle.part_laws.proofs.RunBound.{run_bound}
 use Rattle.part_laws.proofs.StepsFit.{run_collecting, run_isolated}
@@ -29,7 +29,7 @@ use Rattle.headline_laws.proofs.GivenUp.{dead_gone, given_up_from, gives_up, gon
 use Rattle.headline_laws.specs.GivenUp.{IsGivingUp}
 use Rattle.headline_laws.specs.Headline.{IsSafe, IsTransparent}
 
--- The laws of parts joined to one.
+-- The laws of parts combined into one.
 
 kept_transparent : (spec : PartSpec) (journal : List Event) → IsKeptRun spec journal → IsTransparent spec journal
 kept_transparent spec journal kept = record {
@@ -38,7 +38,7 @@ kept_transparent spec journal kept = record {
   agrees = λ device shown. kept_agrees spec journal device kept shown;
 }
 
--- the part behind one event more
+-- the part after one more event
 one_further : (p : PartState) (front : List Event) (e : Event)
     → state_from p (front ++ e ∷ []) ≡ state_after (state_from p front) (step_of e)
 unfolding state_from
@@ -104,7 +104,7 @@ burst_alive spec front back (event.Enter call t attempt a) f b = absurd cc
 burst_alive spec front back (event.Stage s answers released) f b = absurd cc
 burst_alive spec front back (event.Arrive frame kept) f b = absurd cc
 
--- up to the event before the first break the applications saw the never-failing device
+-- in the events before the first break the applications saw the never-failing device
 pub transparent_before : (spec : PartSpec) (journal : List Event) (b : Break) → IsValidPart spec → IsRun spec journal
     → first_break spec.class spec.blocks journal ≡ Some b → IsTransparent spec (take (b.event - 1) journal)
 unfolding first_break

@@ -18,36 +18,36 @@ use Rattle.part_laws.specs.Recovery.{Agrees, ShowsDevice}
 use Rattle.headline_laws.specs.GivenUp.{IsGivingUp, IsOfGivenUp}
 use Rattle.headline_laws.specs.Recoveries.{IsShort, while_away}
 
--- to its applications a part is a device that never fails
+-- for its applications a part is a device that never fails
 pub record IsTransparent (spec : PartSpec) (journal : List Event) : Type 0 where
-  -- they saw one run of the class's device that never fails, a plain disk of which blocks may be bad, a link that may
-  -- lose frames or a stream that may skip samples, with the configuration last acknowledged
+  -- they saw one run of the class's never-failing device, with the configuration last acknowledged: a plain disk whose
+  -- blocks may be bad, a link that may lose frames, or a stream that may skip samples
   pub class_run : IsClassRun spec.class spec.blocks (trace journal)
-  -- each loss, and each answer Busy, stands where it is licensed
+  -- each loss and each answer Busy is licensed
   pub licensed : IsLicensed spec journal
-  -- at the end the record and the holder are the never-failing device's; where no Write is open the medium is the plain
+  -- at the end record and holder are those of the never-failing device; if no Write is open, the medium is the plain
   -- disk's; in Running, with no Set Inside, the registers are the record
   pub agrees : (device : Ideal) → ShowsDevice spec journal device → Agrees (state_of spec journal) device
 
--- all that is promised of a part's journal, whatever its driver executes and in whatever order the steps fall
+-- everything that is promised of a part's journal, whatever its driver executes and in any order of the steps
 pub record IsSafe (spec : PartSpec) (journal : List Event) : Type 0 where
   -- the journal is a run of the part
   pub run : IsRun spec journal
   -- no driver changed a word that it may not write, nor a kernel object that was not lent to it
   pub isolated : IsIsolated spec journal
-  -- each Collect released all that the driver held, and nothing but the registration was left
+  -- each Collect released everything that the driver held, and left only the registration
   pub collecting : IsCollecting spec journal
-  -- the journal has no more events than its calls, failures and arrivals are worth, so every recovery ends
+  -- the journal has no more events than its calls, failures and arrivals allow, so every recovery ends
   pub bounded : length journal ≤ most_events journal
   -- an event that carries a failure begins a recovery
   pub failing : (front back : List Event) (e : Event) → journal ≡ front ++ e ∷ back → carries_failure e ≡ true
       → (state_of spec (front ++ e ∷ [])).mode ≡ mode.Recovering stage.Stop
-  -- after every front of the journal, one that ends with a failure among them, the driver is soon back: until the part
-  -- is Running or Dead, or fails again, it takes at most 11 stages and 192 bursts, each of at most 4,096 turns
+  -- after every prefix of the journal, even one that ends with a failure, the driver is back soon: until the part is
+  -- Running or Dead, or fails again, it takes at most 11 stages and 192 bursts of at most 4,096 instructions each
   pub recovery : (front back : List Event) → journal ≡ front ++ back
       → IsShort (while_away (state_of spec front) back)
-  -- after every front in which the drivers kept the class's contract, and at whose end the part was not given up, the
-  -- applications saw a device that never fails; the whole journal is one of its fronts
+  -- after every prefix in which the drivers kept the class contract, and which does not end given up, the applications
+  -- saw a device that never fails; the whole journal is one of its prefixes
   pub fronts : (front back : List Event) → journal ≡ front ++ back
       → first_break spec.class spec.blocks front ≡ None → is_dead (state_of spec front).mode ≡ false
       → IsTransparent spec front
@@ -55,11 +55,11 @@ pub record IsSafe (spec : PartSpec) (journal : List Event) : Type 0 where
   pub giving_up : (front back : List Event) (e : Event) → journal ≡ front ++ e ∷ back
       → is_dead (state_of spec front).mode ≡ false → is_dead (state_of spec (front ++ e ∷ [])).mode ≡ true
       → IsGivingUp (state_of spec front) (failures_of front) e
-  -- from then on each operation is answered at its invocation, as the static check says or Gone, and nothing runs
+  -- after that each operation is answered at its invocation, Gone or as the static check says, and nothing runs
   pub given_up : (front back : List Event) → journal ≡ front ++ back → is_dead (state_of spec front).mode ≡ true
       → AllByRecursion (IsOfGivenUp spec (failures_of front)) back
 
--- so it is of each part, in order; there is one journal a part
+-- the same of each part, in order; each part has one journal
 unfoldable pub AreSafe : List PartSpec → List (List Event) → Type 0
 AreSafe [] [] = Unit {0}
 AreSafe [] (journal ∷ journals) = ⊥

@@ -1,4 +1,4 @@
-//! The headline: all that is promised of a part, as one law.
+//! The headline: everything that is promised of a part, as one law.
 
 ghost use Rattle.nook_data.specs.Valid.{IsValidPart};
 ghost use Rattle.nook_data.specs.declared.classes.Class.{Class};
@@ -10,19 +10,19 @@ ghost use Rattle.promise_defs.specs.Contract.{first_break};
 ghost use Rattle.headline_laws.specs.Headline.{IsSafe, IsTransparent};
 ghost use Rattle.std.specs.Prelude.{ℕ, List, None, Some, take, ◌-◌, ◌≡◌};
 
-/// Whatever a part's driver executes and in whatever order its steps fall: each burst writes only where the driver may
-/// write, no kernel object changes that is not lent, each Collect leaves the registration alone, and every recovery
-/// ends, after at most 11 stages and 192 bursts. Up to every event, if the class's contract was kept and the part not
-/// given up so far, the applications saw one run of a device that never fails, with which the part agrees there. From
-/// the event on that gives the part up, each call is answered Gone, or as the static check says.
+/// Whatever a part's driver executes, and in any order of its steps: each burst writes only where the driver may write,
+/// no kernel object changes unless it is lent, each Collect leaves only the registration, and every recovery ends after
+/// at most 11 stages and 192 bursts. As long as the class contract was kept and the part not given up, the applications
+/// saw one run of a device that never fails, and the part agrees with it. When the part is given up, and after that,
+/// each call is answered Gone, or as the static check says.
 pub fn every_run_is_safe()
     ensures { (spec : PartSpec) (journal : List Event)
         → IsValidPart spec → IsRun spec journal → IsSafe spec journal }
 {}
 
-/// The events before the first break are a front of the journal that keeps the contract, and the longest: the next
-/// event breaks it. So a report that tells a break at event L promises the L - 1 events before it, whatever becomes of
-/// the part. A part that was given up runs no driver, so it breaks no clause any more.
+/// The events before the first break are the longest prefix of the journal that keeps the contract: the next event
+/// breaks it. So a report of a break at event L promises the L - 1 events before it, whatever happens to the part.
+/// A part that was given up runs no driver, so it cannot break a clause any more.
 pub fn events_before_the_first_break_keep_the_contract()
     ensures kept { (class : Class) (size : ℕ) (events : List Event) (b : Break)
         → first_break class size events ≡ Some b

@@ -1,4 +1,4 @@
-//! The headline: all that is promised of a part, as one law over the definitions.
+//! The headline: everything that is promised of a part, as one law over the definitions.
 #![tactic(auto)]
 
 pub mod headline;

@@ -23,7 +23,7 @@ use Rattle.asm_defs.specs.declared.assembler.Value.{Value}
 use Rattle.asm_defs.specs.declared.assembler.Value.TheVariants as value
 use Rattle.nook_data.specs.declared.classes.Class.{Class}
 use Rattle.nook_data.specs.declared.scenario.Image.{Image}
-use Rattle.driver_asm.specs.Listed.{behind_draft, if_longer, line_if, listed, makers, words_in}
+use Rattle.driver_asm.specs.Listed.{after_draft, if_longer, line_if, listed, makers, words_in}
 use Rattle.driver_asm.specs.declared.listed.Listed.{Listed}
 use Rattle.image_list.specs.ListText.{list_text, rows_from}
 
@@ -78,8 +78,8 @@ known_grows value.Missing word_of draft = tt
 statement_grows : (says : Statement) (draft : Draft) → OneMore draft (with_statement says draft)
 statement_grows statement.Nothing draft = λ s. same_words (words_in s draft)
 statement_grows (statement.Class class) draft = class_same class draft
-statement_grows (statement.Entry place (value.Known number)) draft = entries_same _ draft
-statement_grows (statement.Entry place value.Missing) draft = tt
+statement_grows (statement.Entry position (value.Known number)) draft = entries_same _ draft
+statement_grows (statement.Entry position value.Missing) draft = tt
 statement_grows (statement.Section in_section) draft = section_same in_section draft
 statement_grows (statement.Word v) draft = known_grows v (λ number. number) draft
 statement_grows (statement.Instr mnemonic operands) draft = known_grows operands.imm (λ number. encode_of (instr_with mnemonic operands.a operands.b number)) draft
@@ -108,7 +108,7 @@ Counted s draft whole lines = length (words_in s whole) ≡ length (words_in s d
 counted_on : (s : Section) (labels : Labels) (line : ℕ) (more : List (List ℕ)) (draft whole : Draft) (r : Result Draft AsmKind) → OneMore draft r
     → ((next : Draft) → draft_from labels (line + 1) more next ≡ Ok whole → Counted s next whole (makers s labels (line + 1) more next))
     → (at_line line r >>= λ next. draft_from labels (line + 1) more next) ≡ Ok whole
-    → Counted s draft whole (behind_draft (λ next. if_longer line (words_in s draft) (words_in s next) ++ makers s labels (line + 1) more next) r)
+    → Counted s draft whole (after_draft (λ next. if_longer line (words_in s draft) (words_in s next) ++ makers s labels (line + 1) more next) r)
 counted_on s labels line more draft whole (Ok next) grows rest e =
     let one = longer_by line (length (words_in s draft)) (length (words_in s next)) _ refl (grows s).0 (grows s).1 in
     omega (arith, one, rest next e, length-append (if_longer line (words_in s draft) (words_in s next)) (makers s labels (line + 1) more next))

@@ -21,7 +21,7 @@ no_lines address [] lines none = refl
 no_lines address (word ∷ words) [] none = refl
 no_lines address (word ∷ words) (line ∷ lines) none = absurd (omega (arith, none))
 
--- tokens behind others, where there are any
+-- tokens after others, if there are any
 decoded_later : (instr : Option Instr) (word : ℕ) → flat_map later_token (decoded_tokens instr word) ≡ 32 ∷ line_body (decoded_tokens instr word)
 decoded_later (Some instr) word = refl
 decoded_later None word = refl
@@ -41,7 +41,7 @@ row_line in_section address word line =
       says_later in_section word,
     ) refl
 
--- ---- rows one after the other
+-- ---- rows one after another
 
 rows_split : (words : List ℕ) (i d : ℕ) → i < length words → drop i words ≡ get_or words i d ∷ drop (i + 1) words
 rows_split words i d inside = rw (drop-cons words i d inside, add-one) refl

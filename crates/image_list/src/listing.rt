@@ -19,13 +19,13 @@ use nook_data::scenario::Image;
 use std::alloc::Global;
 use std::fmt::Write;
 
-/// The listing of an assembler text: a line for each text word and each initial word with its address, its eight
-/// hexadecimal digits, the number of the line that made it and what it says; then a line for each label in the order of
-/// their definitions, and one for each entry in the class's order.
+/// The listing of an assembler text. It has a line for each text word and each initial word with its address, its eight
+/// hexadecimal digits, the number of the line that made it and what it says. After these come a line for each label, in
+/// the order of their definitions, and one for each entry, in the class's order.
 ///
 /// # Errors
 ///
-/// `Bad` with the fault that assembling the text has. `NoMemory` where an allocation is refused.
+/// `Bad` with the error of assembling the text. `NoMemory` if an allocation fails.
 #[tactic(auto, unfolding(crate::specs::ListText::list_text))]
 pub fn write_list(alloc: Global, text: &[u8]) -> Result<Words8, AsmError>
     ensures { Gives result (list_text text.now) }
@@ -48,7 +48,8 @@ fn text_of(alloc: Global, listed: &Listed) -> Result<Words8, NoMemory>
 /// A line for each word.
 fn rows_of(alloc: Global, listed: &Listed) -> Result<String, NoMemory>
     ensures { IfOk result (λ text. string_bytes text
-        ≡ flat_map line_text (map (row_tokens Section.Text) (rows_from 0 listed.now.image.text listed.now.text_lines))
+        ≡ flat_map line_text
+        (map (row_tokens Section.Text) (rows_from 0 listed.now.image.text listed.now.text_lines))
         ++ flat_map line_text (map (row_tokens Section.Data)
         (rows_from DATA_START listed.now.image.initial listed.now.initial_lines))) }
 {
@@ -71,7 +72,7 @@ fn rows_of(alloc: Global, listed: &Listed) -> Result<String, NoMemory>
     Ok(text)
 }
 
-/// Adds a line for each word of a section, the first of them at an address.
+/// Adds a line for each word of a section, from an address on.
 #[tactic(auto, using(crate::proofs::Rows::no_lines))]
 fn push_rows(
     text: &mut String,
@@ -110,7 +111,8 @@ fn push_row(
 ) -> Result<(), NoMemory>
     ensures { OnOk result (string_bytes text.new
         ≡ string_bytes text.old
-        ++ line_text (row_tokens section (record { address = address; word = word; line = line }))) }
+        ++ line_text (row_tokens section
+        (record { address = address; word = word; line = line }))) }
 {
     write!(text, "{address} ")?;
     push_digits(text, 8, word)?;
@@ -121,7 +123,8 @@ fn push_row(
 
 /// Adds what a word of a section says, and the line's end.
 fn push_says(text: &mut String, section: Section, word: Word) -> Result<(), NoMemory>
-    ensures { OnOk result (string_bytes text.new ≡ string_bytes text.old ++ line_text (word_says section word)) }
+    ensures { OnOk result
+        (string_bytes text.new ≡ string_bytes text.old ++ line_text (word_says section word)) }
 {
     match section {
         Section::Text => push_text_word(text, word),
@@ -131,7 +134,8 @@ fn push_says(text: &mut String, section: Section, word: Word) -> Result<(), NoMe
 
 /// Adds a line for each label.
 fn push_labels(text: &mut Vec<u8>, labels: &[Label]) -> Result<(), NoMemory>
-    ensures { OnOk result (text.new.items ≡ text.old.items ++ flat_map line_text (map label_tokens labels.now)) }
+    ensures { OnOk result
+        (text.new.items ≡ text.old.items ++ flat_map line_text (map label_tokens labels.now)) }
 {
     for label in labels {
         push_label(text, label)?;
@@ -145,12 +149,13 @@ fn push_label(text: &mut Vec<u8>, label: &Label) -> Result<(), NoMemory>
 {
     text.extend_from_slice(b"label ")?;
     text.extend_from_slice(label.name.as_slice())?;
-    push_last_number(text, label.place)
+    push_last_number(text, label.address)
 }
 
 /// Adds a line for each entry of an image.
 fn push_entries(text: &mut Vec<u8>, image: &Image) -> Result<(), NoMemory>
-    ensures { OnOk result (text.new.items ≡ text.old.items ++ flat_map line_text (listed_entries image.now)) }
+    ensures { OnOk result
+        (text.new.items ≡ text.old.items ++ flat_map line_text (listed_entries image.now)) }
 {
     push_addresses(text, entry_keys(image.class), image.entries.as_slice())
 }
@@ -176,7 +181,8 @@ fn push_addresses(text: &mut Vec<u8>, entries: &[Key], addresses: &[Word]) -> Re
 
 /// Adds the line of an entry.
 fn push_entry(text: &mut Vec<u8>, name: &str, address: Word) -> Result<(), NoMemory>
-    ensures { OnOk result (text.new.items ≡ text.old.items ++ line_text (entry_tokens name.now address)) }
+    ensures { OnOk result
+        (text.new.items ≡ text.old.items ++ line_text (entry_tokens name.now address)) }
 {
     text.extend_from_slice(b"entry ")?;
     text.extend_from_slice(name.as_bytes())?;
@@ -185,7 +191,8 @@ fn push_entry(text: &mut Vec<u8>, name: &str, address: Word) -> Result<(), NoMem
 
 /// Adds the number that ends a line.
 fn push_last_number(text: &mut Vec<u8>, number: u64) -> Result<(), NoMemory>
-    ensures { OnOk result (text.new.items ≡ text.old.items ++ (later_token (decimal number) ++ 10 ∷ [])) }
+    ensures { OnOk result
+        (text.new.items ≡ text.old.items ++ (later_token (decimal number) ++ 10 ∷ [])) }
 {
     let mut digits = Buffer::new();
     text.push(b' ')?;

@@ -53,10 +53,10 @@ hex_back : (w : ℕ) → w < 2 ^ 32 → hex_word (hex_text 8 w) ≡ Ok w
 unfolding hex_word most
 hex_back w small = rw (hex_digits 8 w, hex_value 8 w (omega (arith, small))) refl
 
-items_back : (earlier : List ℕ) (place : ℕ) (ws : List ℕ) → Words ws → items_from text_word earlier place (word_items ws) ≡ Ok (earlier ++ ws)
-items_back earlier place [] h = rw (append-nil earlier) refl
-items_back earlier place (w ∷ ws) h =
-    rw (hex_back w h.0) (items_back (earlier ++ w ∷ []) (place + 1) ws h.1 ∙ ap Ok (append_assoc earlier (w ∷ []) ws))
+items_back : (earlier : List ℕ) (index : ℕ) (ws : List ℕ) → Words ws → items_from text_word earlier index (word_items ws) ≡ Ok (earlier ++ ws)
+items_back earlier index [] h = rw (append-nil earlier) refl
+items_back earlier index (w ∷ ws) h =
+    rw (hex_back w h.0) (items_back (earlier ++ w ∷ []) (index + 1) ws h.1 ∙ ap Ok (append_assoc earlier (w ∷ []) ws))
 
 counted : (ws : List ℕ) → count_of (word_items ws) ≡ length ws
 counted [] = refl
@@ -108,6 +108,6 @@ image_back image valid =
     rw (
       class_back image.class,
       words_back image.initial (words_from image.initial valid.initial.1) valid.initial.0,
-      entries_back image.class image.entries valid.entries (low_from image.entries valid.places),
+      entries_back image.class image.entries valid.entries (low_from image.entries valid.addresses),
       words_back image.text (words_from image.text valid.text.1) valid.text.0,
     ) refl

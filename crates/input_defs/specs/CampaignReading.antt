@@ -22,17 +22,17 @@ check_ops threads =
     under (step.At key.Base) (under (step.At key.Threads)
     (refuse_if (nat_lt MOST_CAMPAIGN_OPS (ops_count threads)) fault.TooMany))
 
--- at most 63 faults that the part at a place has of its own
+-- at most 63 own faults of the part with this index
 abbrev pub check_own_faults : ℕ → List Fault → Result ⊤ Refusal
 check_own_faults part own =
-    under (step.At key.Base) (under (step.At key.Parts) (under (step.Place part) (under (step.At key.Faults)
+    under (step.At key.Base) (under (step.At key.Parts) (under (step.Position part) (under (step.At key.Faults)
     (refuse_if (nat_lt (MOST_FAULTS - 1) (length own)) fault.TooMany))))
 
--- the limits of a scenario whose part at a place gets one more fault
+-- the limits of a scenario whose part with this index gets one more fault
 abbrev pub check_base : Scenario → ℕ → Result ⊤ Refusal
 check_base base part = check_ops base.threads >>= λ few. check_own_faults part (faults_at base.parts part)
 
--- a campaign: a scenario of version 1 or 2, one of its parts and the faults, and then the limits of the scenario
+-- a campaign: a scenario of version 1 or 2, one of its parts and the faults, followed by the scenario's limits
 unfoldable pub campaign_of : Data → Result Campaign Refusal
 campaign_of d = do
   known ← object_with (key.Base ∷ key.Part ∷ key.Faults ∷ []) d
@@ -42,7 +42,7 @@ campaign_of d = do
   limits ← check_base base part
   Ok (record { base = base; part = part; faults = faults })
 
--- the campaign of some bytes, or their first fault
+-- the campaign of some bytes, or their first input error
 unfoldable pub campaign_from : List ℕ → Result Campaign Refusal
 campaign_from bytes = do
   d ← json_of bytes

@@ -6,7 +6,7 @@ use Rattle.asm_defs.specs.declared.assembler.AsmKind.TheVariants as asm
 use Rattle.input_defs.specs.declared.input.InputFault.TheVariants as fault
 use Rattle.input_defs.specs.declared.input.PathStep.TheVariants as step
 
--- the number of an assembler text's fault
+-- the number of an assembler error
 abbrev pub asm_number : AsmKind → ℕ
 asm_number asm.BadToken = 1
 asm_number asm.UnknownName = 2
@@ -18,7 +18,7 @@ asm_number asm.TextTooLong = 7
 asm_number asm.DataTooLong = 8
 asm_number asm.MissingEntry = 9
 
--- a fault's number and name; an assembler text's fault with its own number and its line
+-- an input error's number and name; an assembler error adds its own number and its line
 abbrev pub fault_text : InputFault → List ℕ
 fault_text fault.NotJson = codes "1 not_json"
 fault_text fault.UnknownKey = codes "2 unknown_key"
@@ -31,16 +31,16 @@ fault_text (fault.BadAsm f) = codes "8 bad_asm " ++ decimal (asm_number f.kind) 
 fault_text fault.BadClass = codes "9 bad_class"
 fault_text fault.DoubleName = codes "10 double_name"
 
--- a key or a place behind a `/`
+-- a `/` and a key or an index
 abbrev pub step_text : PathStep → List ℕ
 step_text (step.At key) = 47 ∷ key_text key
-step_text (step.Place place) = 47 ∷ decimal place
+step_text (step.Position index) = 47 ∷ decimal index
 
--- keys and places, each behind a `/`; the root is `/` alone
+-- keys and indexes, each after a `/`; the root is a single `/`
 abbrev pub path_text : List PathStep → List ℕ
 path_text [] = 47 ∷ []
 path_text (first ∷ rest) = flat_map step_text (first ∷ rest)
 
--- the line that tells a fault and its place
+-- the line that reports an input error and its path
 unfoldable pub fault_line : Refusal → List ℕ
 fault_line refusal = codes "fault " ++ fault_text refusal.fault ++ 32 ∷ path_text refusal.path ++ 10 ∷ []

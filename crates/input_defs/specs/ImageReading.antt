@@ -23,27 +23,27 @@ use Rattle.input_defs.specs.declared.input.PathStep.TheVariants as step
 abbrev pub known_class : Data → Result Class Refusal
 known_class d = text_of d >>= λ name. or_bad fault.BadClass (class_named name)
 
--- the word of exactly eight hexadecimal digits, of either case
+-- the word that exactly eight hexadecimal digits write, in either case
 unfoldable pub hex_word : List ℕ → Result ℕ Refusal
 hex_word digits =
     if length digits == 8 && list_all (λ b. is_digit b 16) digits then Ok (digits_value 16 digits)
     else bad fault.BadImage
 
--- the words of the text or of the data, which are as many at most
+-- the words of the text or of the data; both have the same limit
 abbrev pub words_of : Data → Result (List ℕ) Refusal
 words_of d = list_of (λ earlier d. text_of d >>= hex_word) 0 TEXT_WORDS d
 
--- the places of entries, after those that were read before
-abbrev pub places_from : List Key → List ℕ → Data → Result (List ℕ) Refusal
-places_from [] earlier d = Ok earlier
-places_from (entry ∷ more) earlier d =
-    number_at entry 0 (TEXT_WORDS - 1) d >>= λ place. places_from more (earlier ++ place ∷ []) d
+-- the addresses of entries, after those that were read before
+abbrev pub addresses_from : List Key → List ℕ → Data → Result (List ℕ) Refusal
+addresses_from [] earlier d = Ok earlier
+addresses_from (entry ∷ more) earlier d =
+    number_at entry 0 (TEXT_WORDS - 1) d >>= λ address. addresses_from more (earlier ++ address ∷ []) d
 
 -- exactly the entries of a class, in the class's order
 abbrev pub entries_of : Class → Data → Result (List ℕ) Refusal
 entries_of class d = do
   known ← object_with (entry_keys class) d
-  places_from (entry_keys class) [] d
+  addresses_from (entry_keys class) [] d
 
 -- an image
 unfoldable pub image_of : Data → Result Image Refusal
@@ -55,12 +55,12 @@ image_of d = do
   text ← required key.Text words_of d
   Ok (record { class = class; entries = entries; text = text; initial = initial })
 
--- the image of an assembler text, or the text's fault
+-- the image of an assembler text, or the text's error as an input error
 abbrev pub or_bad_asm : Result Image AsmFault → Result Image Refusal
 or_bad_asm (Ok image) = Ok image
 or_bad_asm (Err asm) = bad (fault.BadAsm asm)
 
--- a driver of a class: an object with one of two keys, an assembler text or an image
+-- a driver of a class: an object with one of two keys, for an assembler text or for an image
 unfoldable pub driver_of : Class → Data → Result Image Refusal
 driver_of class d = do
   known ← object_with (key.Image ∷ key.Asm ∷ []) d
@@ -72,10 +72,10 @@ driver_of class d = do
   same ← refuse_if (not (same_class image.class class)) fault.BadImage
   Ok image
 
--- the image of an image's JSON text, or its first fault
+-- the image of an image's JSON text, or its first input error
 unfoldable pub image_from : List ℕ → Result Image Refusal
 image_from bytes = json_of bytes >>= image_of
 
--- the image of an assembler text, or its first fault
+-- the image of an assembler text, or its first input error
 unfoldable pub image_from_asm : List ℕ → Result Image Refusal
 image_from_asm bytes = or_bad_asm (assembled bytes)

@@ -2,7 +2,7 @@ use Rattle.std.specs.Prelude.{ℕ, ◌-◌, ◌==◌, List, [], ◌∷◌, codes
 use Rattle.std.specs.Prelude.{if◌then◌else◌}
 use Rattle.serde_json.specs.Data.{Data}
 use Rattle.nook_data.specs.declared.limits.TheConstants.{MOST_ARRIVALS, MOST_BAD_BLOCKS, MOST_DISK_BLOCKS}
-use Rattle.nook_data.specs.declared.limits.TheConstants.{MOST_FAILURES, MOST_FAULTS, MOST_FRAME_WORDS, MOST_TURNS}
+use Rattle.nook_data.specs.declared.limits.TheConstants.{MOST_FAILURES, MOST_FAULTS, MOST_FRAME_WORDS, MOST_INSTRUCTIONS}
 use Rattle.input_defs.specs.ImageReading.{known_class, driver_of}
 use Rattle.nook_data.specs.Names.{is_name, value_named}
 use Rattle.input_defs.specs.Reading.{word_at}
@@ -21,18 +21,18 @@ use Rattle.nook_data.specs.declared.scenario.FaultKind.TheVariants as strikes
 use Rattle.nook_data.specs.Names.{is_among}
 use Rattle.nook_data.specs.Valid.{part_names}
 
--- a name of 1 to 16 bytes that is not among the earlier ones
+-- a name of 1 to 16 bytes that differs from the earlier ones
 unfoldable pub new_name : List (List ℕ) → List ℕ → Result (List ℕ) Refusal
 new_name earlier name =
     if is_name name then (if is_among earlier name then bad fault.DoubleName else Ok name) else bad fault.WrongKind
 
--- a name that none of the earlier ones is
+-- a name that differs from the earlier ones
 abbrev pub name_of : List (List ℕ) → Data → Result (List ℕ) Refusal
 name_of earlier d = text_of d >>= new_name earlier
 
 -- ---- faults
 
--- the kind of fault of a name
+-- the kind of fault that a name denotes
 unfoldable pub fault_named : List ℕ → Option FaultName
 fault_named name = value_named (
     (codes "trap", named.Trap) ∷ (codes "hang", named.Hang) ∷ (codes "poke", named.Poke) ∷ (codes "code", named.Code)
@@ -70,11 +70,11 @@ fault_of d = do
   name ← required key.Kind (named_of fault_named) d
   known ← object_with (key.Burst ∷ key.After ∷ key.Kind ∷ fault_keys name) d
   burst ← number_at key.Burst 1 4294967295 d
-  after ← number_at key.After 0 (MOST_TURNS - 1) d
+  after ← number_at key.After 0 (MOST_INSTRUCTIONS - 1) d
   kind ← fault_kind name d
   Ok (record { burst = burst; after = after; kind = kind })
 
--- a bad block, of a disk of so many blocks, of which there is one at least
+-- a bad block of a disk with this many blocks, at least one
 unfoldable pub bad_block_of : ℕ → Data → Result BadBlock Refusal
 bad_block_of blocks d = do
   known ← object_with (key.Block ∷ key.After ∷ []) d
@@ -84,7 +84,7 @@ bad_block_of blocks d = do
 
 -- ---- parts
 
--- the keys of a part, by its class; bad blocks may stand in version 2
+-- the keys of a part, by its class; version 2 allows bad blocks
 abbrev pub part_keys : ℕ → Class → List Key
 part_keys version class.Block =
     key.Name ∷ key.Class ∷ key.Limit ∷ key.Driver ∷ key.Faults ∷ key.Blocks
@@ -92,7 +92,7 @@ part_keys version class.Block =
 part_keys version class.Net = key.Name ∷ key.Class ∷ key.Limit ∷ key.Driver ∷ key.Faults ∷ key.Arrivals ∷ []
 part_keys version class.Sound = key.Name ∷ key.Class ∷ key.Limit ∷ key.Driver ∷ key.Faults ∷ []
 
--- the blocks of a disk; other classes have none
+-- the number of blocks of a disk; other classes have none
 abbrev pub part_blocks : Class → Data → Result ℕ Refusal
 part_blocks class.Block d = number_at key.Blocks 1 MOST_DISK_BLOCKS d
 part_blocks _ d = Ok 0

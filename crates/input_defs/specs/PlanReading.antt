@@ -33,7 +33,7 @@ member_of d = list_of (λ earlier. fault_of) 1 MOST_MEMBER_FAULTS d
 abbrev pub member_lists_of : Data → Result (List (List Fault)) Refusal
 member_lists_of d = list_of (λ earlier. member_of) 1 MOST_CAMPAIGN_FAULTS d
 
--- a kind of fault, in an object that has no burst and no number of turns
+-- a kind of fault, in an object without a burst and a number of instructions
 unfoldable pub kind_of : Data → Result FaultKind Refusal
 kind_of d = do
   members ← is_object d
@@ -45,7 +45,7 @@ kind_of d = do
 abbrev pub kinds_of : Data → Result (List FaultKind) Refusal
 kinds_of d = list_of (λ earlier. kind_of) 1 MOST_EVERY_KINDS d
 
--- what strikes, by the values of the keys `every` and `members`, else by the key `faults`
+-- what strikes, from the value of the key `every` or `members`, or else from the key `faults`
 abbrev pub strikes_of : Option Data → Option Data → Data → Result Strikes Refusal
 strikes_of (Some inside) lists d = under (step.At key.Every) (kinds_of inside) >>= λ kinds. Ok (strikes.Every kinds)
 strikes_of None (Some inside) d =
@@ -56,7 +56,7 @@ strikes_of None None d = required key.Faults member_faults_of d >>= λ faults. O
 abbrev pub has_key : Key → Data → Bool
 has_key key d = is_some (get (key_text key) d)
 
--- at most one of the keys `faults`, `members` and `every` is there: the second of those that are is unknown
+-- at most one of the keys `faults`, `members` and `every` occurs; the second of those that occur is an unknown key
 abbrev pub check_choice : Bool → Bool → Bool → Result ⊤ Refusal
 check_choice faults members every =
     if faults && members then under (step.At key.Members) (bad fault.UnknownKey)
@@ -70,25 +70,25 @@ flag_of d = or_bad fault.WrongKind (as_bool d)
 
 -- ---- limits
 
--- the part at a place has at most 64 faults and traps
+-- the part with this index has at most 64 faults and traps
 abbrev pub check_count : ℕ → ℕ → Result ⊤ Refusal
-check_count place count =
-    under (step.At key.Base) (under (step.At key.Parts) (under (step.Place place) (under (step.At key.Faults)
+check_count index count =
+    under (step.At key.Base) (under (step.At key.Parts) (under (step.Position index) (under (step.At key.Faults)
     (refuse_if (nat_lt MOST_FAULTS count) fault.TooMany))))
 
--- each part, the first of them at a place, has room for the faults that it gets and for the traps of a guard
+-- each part, from this index on, has room for the faults that it gets and for the traps of a guard
 abbrev pub check_traps : ℕ → ℕ → ℕ → List PartSpec → Result ⊤ Refusal
-check_traps struck more place [] = Ok tt
-check_traps struck more place (part ∷ parts) =
-    check_count place (length part.faults + more_faults struck more place + (part.limit + 1))
-    >>= λ room. check_traps struck more (suc place) parts
+check_traps struck more index [] = Ok tt
+check_traps struck more index (part ∷ parts) =
+    check_count index (length part.faults + more_faults struck more index + (part.limit + 1))
+    >>= λ room. check_traps struck more (suc index) parts
 
--- the same, of a campaign with a guard
+-- the same, if the campaign has a guard
 abbrev pub check_guard : Bool → ℕ → ℕ → List PartSpec → Result ⊤ Refusal
 check_guard true struck more parts = check_traps struck more 0 parts
 check_guard false struck more parts = Ok tt
 
--- the limits of the scenario, of which the part at a place gets up to so many faults, with a guard or without
+-- the limits of the scenario whose part with this index gets up to `more` faults, with or without a guard
 abbrev pub check_base : Scenario → ℕ → ℕ → Bool → Result ⊤ Refusal
 check_base base part more guard = do
   few ← check_ops base.threads
@@ -97,7 +97,7 @@ check_base base part more guard = do
 
 -- ---- campaigns
 
--- a campaign: a scenario of version 1 or 2, one of its parts, what strikes it, the options, and then the limits
+-- a campaign: a scenario of version 1 or 2, one of its parts, what strikes it, and the options, followed by the limits
 unfoldable pub plan_of : Data → Result Plan Refusal
 plan_of d = do
   known ← object_with (key.Base ∷ key.Part ∷ key.Faults ∷ key.Members ∷ key.Every ∷ key.Guard ∷ key.Detail ∷ []) d
@@ -110,7 +110,7 @@ plan_of d = do
   limits ← check_base base part (most_faults chosen) guard
   Ok (record { base = base; part = part; strikes = chosen; guard = guard; detail = detail })
 
--- the campaign of some bytes, or their first fault
+-- the campaign of some bytes, or their first input error
 unfoldable pub plan_from : List ℕ → Result Plan Refusal
 plan_from bytes = do
   d ← json_of bytes

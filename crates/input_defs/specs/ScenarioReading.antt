@@ -19,7 +19,7 @@ use Rattle.nook_data.specs.Valid.{thread_names}
 
 -- ---- schedules
 
--- the kind of schedule of a name
+-- the kind of schedule that a name denotes
 unfoldable pub schedule_named : List ℕ → Option ScheduleName
 schedule_named name = value_named (
     (codes "round_robin", named.RoundRobin) ∷ (codes "drawn", named.Drawn) ∷ (codes "listed", named.Listed) ∷ []) name
@@ -46,7 +46,7 @@ schedule_of d = do
 
 -- ---- operations
 
--- the operation of a name
+-- the operation that a name denotes
 unfoldable pub op_named : List ℕ → Option OpName
 op_named name = value_named (
     (codes "read", asks.Read) ∷ (codes "write", asks.Write) ∷ (codes "send", asks.Send) ∷ (codes "recv", asks.Recv)
@@ -69,7 +69,7 @@ op_keys asks.Set = key.Key ∷ key.Value ∷ []
 abbrev pub op_words_of : Data → Result (List ℕ) Refusal
 op_words_of d = numbers_of 0 256 4294967295 d
 
--- what an operation asks, by the keys that it has
+-- what an operation asks for, by its keys
 unfoldable pub op_by : OpName → Data → Result Op Refusal
 op_by asks.Read d = do
   first ← word_at key.First d
@@ -90,7 +90,7 @@ op_by asks.Set d = do
   value ← word_at key.Value d
   Ok (op.Set register value)
 
--- an operation on one of so many parts, of which there is one at least
+-- an operation on one of this many parts, at least one
 unfoldable pub op_of : ℕ → Data → Result (ℕ × Op) Refusal
 op_of parts d = do
   members ← is_object d
@@ -102,7 +102,7 @@ op_of parts d = do
 
 -- ---- threads
 
--- a thread of a scenario of so many parts, after the earlier threads, with up to 256 operations
+-- a thread of a scenario with this many parts, after the earlier threads; it has up to 256 operations
 unfoldable pub thread_of : ℕ → List ThreadSpec → Data → Result ThreadSpec Refusal
 thread_of parts earlier d = do
   known ← object_with (key.Name ∷ key.Ops ∷ []) d
@@ -122,6 +122,6 @@ scenario_of d = do
   threads ← required key.Threads (list_of (thread_of (length parts)) 0 MOST_THREADS) d
   Ok (record { schedule = schedule; parts = parts; threads = threads })
 
--- the scenario of some bytes, or their first fault
+-- the scenario of some bytes, or their first input error
 unfoldable pub scenario_from : List ℕ → Result Scenario Refusal
 scenario_from bytes = json_of bytes >>= scenario_of

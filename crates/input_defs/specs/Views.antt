@@ -1,3 +1,3 @@
--- How contracts see the data of code, and names that they give to pieces of the definitions. The promises of the program
--- rest on none of these.
+-- How contracts see the code's data, and names for pieces of the definitions. The program's promises do not depend on
+-- them.
 pub mod Readings

@@ -1,31 +1,31 @@
-//! What an input is refused for, and where in it.
+//! Why an input is refused, and where.
 
 use asm_defs::assembler::AsmFault;
 use asm_defs::keys::Key;
 use nook_data::lists::Items;
 
-/// Why an input is refused. The numbers that the program prints go from 1, in this order.
+/// Why an input is refused. The numbers that the program prints count from 1, in this order.
 #[derive(Clone, Copy)]
 pub enum InputFault {
-    /// The bytes are no JSON text.
+    /// The bytes are not a JSON text.
     NotJson,
-    /// An object has a key that its kind of object does not have.
+    /// An object has a key that objects of its kind do not have.
     UnknownKey,
-    /// A key that must be there is not.
+    /// A required key is absent.
     MissingKey,
-    /// A value is of another kind: no object, no list, no text, no whole number that is not negative, or no such name.
+    /// A value is of the wrong kind: no object, no list, no text, no non-negative whole number, or no such name.
     WrongKind,
-    /// A number, or a list with no items, is out of its range.
+    /// A number is out of its range, or a list has no items.
     NumberRange,
     /// A list, or the whole input, is too long.
     TooMany,
-    /// A word of an image is no eight hexadecimal digits, or an image is of another class than its part.
+    /// A word of an image does not have eight hexadecimal digits, or an image is not of its part's class.
     BadImage,
-    /// An assembler text has a fault.
+    /// An assembler text has an error.
     BadAsm(AsmFault),
-    /// A text is no class.
+    /// A text names no class.
     BadClass,
-    /// An earlier part or thread has the name.
+    /// An earlier part or thread has this name.
     DoubleName,
 }
 
@@ -61,17 +61,17 @@ pub enum OpName {
     Set,
 }
 
-/// A step from an object or a list to something inside it. Places count from 0.
+/// A step from an object or a list to something inside it. Indexes count from 0.
 #[derive(Clone, Copy, PartialEq, Eq)]
 pub enum PathStep {
     At(Key),
-    Place(u32),
+    Position(u32),
 }
 
-/// The way from the whole input to a place in it.
+/// The path from the whole input to a value in it.
 pub type Path = Items<PathStep>;
 
-/// The first fault of an input and where it stands.
+/// The first input error, and its path.
 #[derive(Drop)]
 pub struct Refusal {
     pub fault: InputFault,

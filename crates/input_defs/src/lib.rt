@@ -1,4 +1,4 @@
-//! Definitions of inputs: scenarios, campaigns and images as JSON, and the faults of each.
+//! Definitions of inputs: scenarios, campaigns and images as JSON, and their input errors.
 #![tactic(auto)]
 
 pub mod input;

@@ -1,23 +1,23 @@
--- A text against what is written in its place.
+-- A text compared with what is written instead of it.
 use Rattle.std.proofs.Common.{◌≡◌, ◌<◌, ◌≤◌, ℕ, suc, zero, ◌+◌, ◌==◌, Bool, true, false, Option, Some, None, is_some, List, [], ◌∷◌, ◌++◌, length, take, drop, get_or, refl, sym, ap, ◌∙◌, arith, append_assoc, append-nil}
 use Rattle.std.proofs.lemmas.List.{take_more}
 use Rattle.std.proofs.Math.Seq.{take-add}
 use Rattle.std.proofs.lemmas.Bool.{eqb-true}
 use Rattle.journal_audit.specs.Comparisons.{Comparison, held_in, list_of, written_in}
-use Rattle.journal_audit.specs.Placed.{begins_with}
+use Rattle.journal_audit.specs.Position.{begins_with}
 
 differs : (a b : ℕ) (same : Bool) → (a == b) ≡ same → (b ≡ a → ⊥) → same ≡ false
 differs a b true e h = absurd (h (sym (eqb-true a b e)))
 differs a b false e h = refl
 
--- another byte stands at a place
+-- the byte at an index is another
 pub begins_other : (byte i : ℕ) (text : List ℕ) → (byte ≡ get_or text i 0 → ⊥) → begins_with byte (drop i text) ≡ false
 begins_other byte zero [] h = refl
 begins_other byte zero (first ∷ text) h = differs first byte (first == byte) refl h
 begins_other byte (suc i) [] h = refl
 begins_other byte (suc i) (first ∷ text) h = begins_other byte i text h
 
--- no byte stands behind the end
+-- there is no byte after the end
 pub begins_none : (byte i : ℕ) (text : List ℕ) → length text ≤ i → begins_with byte (drop i text) ≡ false
 begins_none byte zero [] h = refl
 begins_none byte zero (first ∷ text) h = absurd (omega arith)
@@ -51,7 +51,7 @@ pub written_more : (old : Comparison) (text piece rest : List ℕ) (at n : ℕ) 
 written_more old text piece rest at n wrong faults e none r same =
     rw (e, no_wrong wrong none) (more_of text piece at n (same ∙ ap (take n) r))
 
--- and another byte behind it
+-- and another byte after it
 pub written_other : (old : Comparison) (text piece rest : List ℕ) (at n : ℕ) (wrong : Option ℕ) (faults : ℕ)
     → old ≡ record { text = text; at = at; wrong = wrong; faults = faults } → is_some wrong ≡ false → rest ≡ drop at text
     → take n piece ≡ take n rest → n < length piece
@@ -59,7 +59,7 @@ pub written_other : (old : Comparison) (text piece rest : List ℕ) (at n : ℕ)
 written_other old text piece rest at n wrong faults e none r same less =
     rw (e, no_wrong wrong none) (other_of text piece at n (same ∙ ap (take n) r) less)
 
--- what is held has the text in front
+-- what is held begins with the text
 pub held_more : (old : Comparison) (text written more : List ℕ) → old.text ≡ text → written ≡ written_in old ++ more
     → length text ∷ (text ++ written) ≡ held_in old ++ more
 held_more old text written more same e =

@@ -1,4 +1,4 @@
--- What is found behind a section's events and behind the last section.
+-- What is found after a section's events and after the last section.
 use Rattle.std.proofs.Common.{◌≡◌, ℕ, Bool, true, false, Option, Some, None, List, [], ◌∷◌, ◌++◌, if◌then◌else◌, drop, length, map, Result, Ok, Err, OnOk, refl, sym, ap, subst, ◌∙◌}
 use Rattle.run_laws.specs.Audit.{Auditing, Done, Section, after_line, answers_in_order, done_of, first_unfit, has_nothing, is_complete, is_ended, is_numbered, last_lines, lines_of, own_listeners, published_in, section_end}
 use Rattle.report_defs.specs.ReportText.{final_lines, status_line, taps_text, threads_text}
@@ -10,16 +10,16 @@ use Rattle.nook_data.specs.declared.scenario.PartSpec.{PartSpec}
 use Rattle.nook_data.specs.declared.scenario.Scenario.{Scenario}
 use Rattle.request_taps.specs.Bus.{result_of}
 use Rattle.request_taps.proofs.Totals.{all_totals}
-use Rattle.report_text.specs.declared.whole_report.PartEnd.{PartEnd}
-use Rattle.report_text.specs.declared.whole_report.PartReport.{PartReport}
+use Rattle.run_results.specs.declared.report.PartEnd.{PartEnd}
+use Rattle.run_results.specs.declared.report.PartReport.{PartReport}
 use Rattle.report_text.specs.Writing.{Wrote}
 use Rattle.report_text.specs.declared.write.WriteStop.{WriteStop}
-use Rattle.journal_audit.specs.Comparisons.{Comparison, held_in, untouched}
+use Rattle.journal_audit.specs.Comparisons.{Comparison, change_in, untouched}
 use Rattle.part_defs.specs.State.{PartState}
-use Rattle.report_text.specs.Whole.{ShowsState}
+use Rattle.run_results.specs.Reports.{ShowsState}
 use Rattle.run_ends.specs.Ends.{end_of, objects_in}
 use Rattle.journal_audit.specs.Found.{at_last, between, found_from, inside}
-use Rattle.journal_audit.specs.Placed.{Departs, Follows, IsEnding, Place}
+use Rattle.journal_audit.specs.Position.{Departs, Follows, IsEnding, Position}
 use Rattle.journal_audit.specs.Stopping.{Checks, OnUnfit}
 use Rattle.journal_audit.specs.declared.stop.Stop.{Stop}
 use Rattle.journal_audit.specs.declared.stop.Stop.TheVariants as stops
@@ -40,7 +40,7 @@ no_step : (scenario : Scenario) (a : Auditing) (number : ℕ) (line : List ℕ) 
 unfolding first_unfit
 no_step scenario a number line lines e = rw (e, first_unfit) refl
 
--- ---- behind a section's events
+-- ---- after a section's events
 
 ending_step : (scenario : Scenario) (sections : List Done) (s : Section) (coming : List PartSpec) (line due : List ℕ)
     → section_end s ≡ due → is_ended due ≡ true → is_ended line ≡ true → is_numbered line ≡ false → is_complete s ≡ true
@@ -50,8 +50,8 @@ unfolding after_line
 ending_step scenario sections s coming line [] e h ended other complete = absurd (cc)
 ending_step scenario sections s coming line (byte ∷ due) e h ended other complete = rw (ended, other, complete, e) refl
 
--- a complete section is over, and its last lines are due
-pub ending_due : (scenario : Scenario) (sections : List Done) (s : Section) (coming : List PartSpec) (p : Place) → IsEnding p
+-- if a complete section is over, its last lines are due
+pub ending_due : (scenario : Scenario) (sections : List Done) (s : Section) (coming : List PartSpec) (p : Position) → IsEnding p
     → is_complete s ≡ true → is_ended (section_end s) ≡ true → found_from scenario (inside sections s coming) p
     ≡ found_from scenario (owing (between (sections ++ done_of s ∷ []) coming) (section_end s)) p
 ending_due scenario sections s coming p n complete h =
@@ -66,15 +66,15 @@ early_step : (scenario : Scenario) (sections : List Done) (s : Section) (coming 
 unfolding after_line
 early_step scenario sections s coming line ended other early = rw (ended, other, early) refl
 
--- one that is not complete has no end
-pub ending_early : (scenario : Scenario) (sections : List Done) (s : Section) (coming : List PartSpec) (p : Place) → IsEnding p
+-- a section that is not complete has no end
+pub ending_early : (scenario : Scenario) (sections : List Done) (s : Section) (coming : List PartSpec) (p : Position) → IsEnding p
     → is_complete s ≡ false → found_from scenario (inside sections s coming) p ≡ Some p.number
 ending_early scenario sections s coming p n early =
     rw n.next.lines
     (no_step scenario (inside sections s coming) p.number n.line (lines_of (drop (length n.line) p.rest))
     (early_step scenario sections s coming n.line n.next.ended n.other early))
 
--- ---- behind the last section
+-- ---- after the last section
 
 last_step : (scenario : Scenario) (sections : List Done) (line due : List ℕ) → last_lines scenario sections ≡ due
     → is_ended due ≡ true → after_line scenario (between sections []) line ≡ after_line scenario (owing (at_last sections []) due) line
@@ -94,12 +94,12 @@ last_from scenario sections due number [] e h = last_none due number h
 last_from scenario sections due number (line ∷ lines) e h =
     same_step scenario (between sections []) (owing (at_last sections []) due) number line lines (last_step scenario sections line due e h)
 
--- where no part is to come the lines behind the sections are due
-pub last_due : (scenario : Scenario) (sections : List Done) (p : Place) → is_ended (last_lines scenario sections) ≡ true
+-- if no part is to come, the lines after the sections are due
+pub last_due : (scenario : Scenario) (sections : List Done) (p : Position) → is_ended (last_lines scenario sections) ≡ true
     → found_from scenario (between sections []) p ≡ found_from scenario (owing (at_last sections []) (last_lines scenario sections)) p
 last_due scenario sections p h = last_from scenario sections (last_lines scenario sections) p.number (lines_of p.rest) refl h
 
--- what was summed up makes these lines
+-- what was summed up gives these lines
 last_of : (scenario : Scenario) (sections : List Done) (t : Past) → SumsUp scenario.parts sections t
     → threads_text 0 scenario.threads (answers_in_order 0 scenario.threads sections)
     ++ (taps_text 0 (map result_of t.taps) ++ status_line (if t.broken then 7 else if t.given_up then 1 else 0))
@@ -116,36 +116,36 @@ pub last_text : (scenario : Scenario) (sections : List Done) (t : Past) (threads
 last_text scenario sections t threads answers taps status sums e a l s =
     rw (a, l, s, ← e) (last_of scenario sections t sums)
 
--- ---- what was compared with a text that is due
+-- ---- what was compared with a due text
 
--- all of it was there, or this is the line at which it was not
-pub due_checked : (r : Result (Unit {0}) Stop) (scenario : Scenario) (a : Auditing) (text : List ℕ) (p q : Place) → is_ended text ≡ true
+-- the text was there in full, or this is the line at which it was not
+pub due_checked : (r : Result (Unit {0}) Stop) (scenario : Scenario) (a : Auditing) (text : List ℕ) (p q : Position) → is_ended text ≡ true
     → OnOk r (Follows text p q) → OnUnfit r (Departs text p)
     → Checks r (found_from scenario (owing a text) p) (found_from scenario (owing a []) q)
 due_checked (Ok done) scenario a text p q h follows departs = due_followed scenario a text p q h follows
 due_checked (Err (stops.Unfit line)) scenario a text p q h follows departs = due_departed scenario a text p line h departs
 due_checked (Err stops.NoMemory) scenario a text p q h follows departs = tt
 
--- a comparison that was settled has this text whole in front of the place behind it
-pub settled_ok : (r : Result (Unit {0}) Stop) (c : Comparison) (written : Result (Unit {0}) WriteStop) (text : List ℕ) (p q : Place)
+-- after a comparison that was settled, the text is complete before the new position
+pub settled_ok : (r : Result (Unit {0}) Stop) (c : Comparison) (written : Result (Unit {0}) WriteStop) (text : List ℕ) (p q : Position)
     → Held c p.rest written text
-    → OnOk r ((t : List ℕ) → Wrote (Some (held_in (untouched p.rest))) (Some (held_in c)) 0 c.faults written t → Follows t p q)
+    → OnOk r ((t : List ℕ) → Wrote (change_in (untouched p.rest) c) written t → Follows t p q)
     → OnOk r (Follows text p q)
 settled_ok (Ok done) c written text p q h f = f text h.is
 settled_ok (Err stop) c written text p q h f = tt
 
 -- or it departs from the text at a line
-pub settled_unfit : (r : Result (Unit {0}) Stop) (c : Comparison) (written : Result (Unit {0}) WriteStop) (text : List ℕ) (p : Place)
+pub settled_unfit : (r : Result (Unit {0}) Stop) (c : Comparison) (written : Result (Unit {0}) WriteStop) (text : List ℕ) (p : Position)
     → Held c p.rest written text
-    → OnUnfit r (λ line. (t : List ℕ) → Wrote (Some (held_in (untouched p.rest))) (Some (held_in c)) 0 c.faults written t
+    → OnUnfit r (λ line. (t : List ℕ) → Wrote (change_in (untouched p.rest) c) written t
     → Departs t p line) → OnUnfit r (Departs text p)
 settled_unfit (Ok done) c written text p h f = tt
 settled_unfit (Err (stops.Unfit line)) c written text p h f = f text h.is
 settled_unfit (Err stops.NoMemory) c written text p h f = tt
 
--- ---- what a section's part ends in
+-- ---- how a section's part ends
 
--- the end of a part shows the state that it is in
+-- the end of a part shows the part's state
 ends_shown : (spec : PartSpec) (p : PartState) (end : PartEnd) → p.spec ≡ spec → end ≡ end_of p → ShowsState spec p end
 unfolding end_of objects_in
 ends_shown spec p end e same = rw same (record {
@@ -167,7 +167,7 @@ section_text : (s : Section) (spec : PartSpec) (events : List Event) (judged : P
 unfolding section_end
 section_text s spec events judged e j r = rw (e, j, r) refl
 
--- what holds of the lines that were written behind a section's events
+-- what holds of the lines written after a section's events
 pub end_written : (s : Section) (run : PartRun) (spec : PartSpec) (events : List Event) (judged : PartReport) (end : PartEnd)
     (holds : List ℕ → Type 0) → run ≡ s.seat.run → s.seat.run.state.spec ≡ s.spec → spec ≡ s.spec → events ≡ s.seat.run.journal
     → judged ≡ judged_in s → end ≡ end_of run.state
@@ -178,8 +178,8 @@ end_written s run spec events judged end holds same kept e j r ends f =
     subst holds (section_text s spec events judged e j r)
     (f s.seat.run.state (ends_shown spec s.seat.run.state end (kept ∙ sym e) ended) (same_failures s judged end r ended))
 
--- where a text that is due is departed from, that line is found, whatever was to be found behind it
-pub departs_found : (A B : Type 0) (stop : Stop) (scenario : Scenario) (a : Auditing) (text : List ℕ) (p : Place) (before after : Option ℕ)
+-- if the report departs from a due text, that line is found, whatever was to be found after the text
+pub departs_found : (A B : Type 0) (stop : Stop) (scenario : Scenario) (a : Auditing) (text : List ℕ) (p : Position) (before after : Option ℕ)
     → is_ended text ≡ true → before ≡ found_from scenario (owing a text) p → OnUnfit {T = A} (Err stop) (Departs text p)
     → Checks {T = B} (Err stop) before after
 departs_found A B (stops.Unfit line) scenario a text p before after h same departs = same ∙ due_departed scenario a text p line h departs

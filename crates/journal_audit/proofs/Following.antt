@@ -1,9 +1,9 @@
--- Texts that stand one after another.
+-- Texts that follow one another.
 use Rattle.std.proofs.Common.{◌≡◌, ℕ, suc, ◌+◌, ◌==◌, true, false, if◌then◌else◌, List, [], ◌∷◌, ◌++◌, length, take, drop, refl, sym, ap, ◌∙◌, append_assoc, arith}
 use Rattle.std.proofs.lemmas.List.{take-append-drop}
 use Rattle.order_defs.specs.OutOfOrder.{lines_in}
 use Rattle.journal_audit.proofs.Placing.{feeds_counted}
-use Rattle.journal_audit.specs.Placed.{Follows, IsNextLine, PassesLine, Place, feeds, past}
+use Rattle.journal_audit.specs.Position.{Follows, IsNextLine, PassesLine, Position, feeds, past}
 
 pub feeds_both : (a b : List ℕ) → feeds (a ++ b) ≡ feeds a + feeds b
 feeds_both [] b = omega arith
@@ -17,10 +17,10 @@ feeds_both (byte ∷ a) b =
 pub feeds_lines : (text : List ℕ) → feeds text ≡ lines_in text
 feeds_lines text = feeds_counted text
 
-pub follows_none : (p : Place) → Follows [] p p
+pub follows_none : (p : Position) → Follows [] p p
 follows_none p = record { rest = refl; number = omega arith }
 
-pub follows_both : (x y : List ℕ) (p q r : Place) → Follows x p q → Follows y q r → Follows (x ++ y) p r
+pub follows_both : (x y : List ℕ) (p q r : Position) → Follows x p q → Follows y q r → Follows (x ++ y) p r
 follows_both x y p q r a b =
     let fed : feeds (x ++ y) ≡ feeds x + feeds y = feeds_both x y in
     let first : q.number ≡ p.number + feeds x = a.number in
@@ -31,7 +31,7 @@ follows_both x y p q r a b =
     }
 
 -- the next line is passed
-pub line_passed : (p : Place) (line : List ℕ) → IsNextLine p line → PassesLine line p (past (length line) p)
+pub line_passed : (p : Position) (line : List ℕ) → IsNextLine p line → PassesLine line p (past (length line) p)
 line_passed p line n =
     let one : feeds (take (length line) p.rest) ≡ 1 = ap feeds n.front ∙ n.feeds in
     record {

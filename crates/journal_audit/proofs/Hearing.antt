@@ -1,4 +1,4 @@
--- The threads of a section, as each of them notes an event.
+-- The threads of a section while each of them notes an event.
 use Rattle.std.proofs.Common.{◌≡◌, ℕ, suc, ◌+◌, ◌<◌, ◌≤◌, ◌&&◌, List, [], ◌∷◌, ◌++◌, append-nil, append_assoc, length, map, take, drop, get_or, set, refl, sym, ap, ◌∙◌, arith}
 use Rattle.std.proofs.lemmas.List.{drop-set-lt, drop_all, drop_more, take_all, take_more_set}
 use Rattle.std.proofs.lemmas.List.Elements.{All-get_or, All-set}
@@ -7,7 +7,7 @@ use Rattle.run_laws.specs.Audit.{are_through, is_through, thread_on}
 use Rattle.run_defs.specs.Simulation.{started, threads_after, thread_after}
 use Rattle.nook_data.specs.declared.steps.Event.{Event}
 use Rattle.nook_data.specs.declared.scenario.ThreadSpec.{ThreadSpec}
-use Rattle.part_laws.proofs.Places.{length_map}
+use Rattle.part_laws.proofs.Indices.{length_map}
 use Rattle.journal_audit.specs.Sections.{AreOn, OnPart, state_in, with_state}
 
 abbrev pub heard_by : ℕ → Event → OnPart → OnPart
@@ -23,7 +23,7 @@ pub is_heard : (thread : ℕ) (e : Event) (old new : OnPart) → new.part ≡ ol
 is_heard thread e old new part state =
     ap (λ (p : ℕ). record { part = p; state = new.state }) part ∙ ap (with_state old) state
 
--- the threads below a place have noted the event, those from it on have not
+-- the threads below an index have noted the event, the others have not
 abbrev pub heard_below : ℕ → Event → List OnPart → List OnPart
 heard_below k e threads = take k threads ++ all_heard k e (drop k threads)
 
@@ -36,7 +36,7 @@ one_more k e threads d new within h =
 pub all_below : (k : ℕ) (e : Event) (threads : List OnPart) → length threads ≤ k → heard_below k e threads ≡ threads
 all_below k e threads over = rw (take_all k threads over, drop_all k threads over) (append-nil threads)
 
--- where all are on one part, each thread's state is as the run has it
+-- if all threads are on one part, each thread's state is as the run has it
 pub states_heard : (thread part : ℕ) (e : Event) (threads : List OnPart) → AreOn part threads
     → map state_in (all_heard thread e threads) ≡ threads_after thread part e (map state_in threads)
 states_heard thread part e [] on = refl
@@ -45,13 +45,13 @@ states_heard thread part e (t ∷ threads) on =
     let later : AreOn part threads = λ k d h. on (suc k) d (omega arith) in
     rw (here, states_heard (thread + 1) part e threads later) refl
 
--- one of the threads is put in the place of another on its part
+-- a thread replaces another one on its part
 pub on_set : (part k : ℕ) (threads : List OnPart) (d new : OnPart) → k < length threads → new.part ≡ (get_or threads k d).part
     → AreOn part threads → AreOn part (set threads k new)
 on_set part k threads d new within same on =
     All-set (λ (t : OnPart). t.part ≡ part) threads k new (same ∙ All-get_or (λ (t : OnPart). t.part ≡ part) threads k d within on) on
 
--- all threads are through where each is
+-- all threads are through if each is
 pub all_through : (threads : List OnPart) → list_all (λ t. is_through t.state) threads ≡ are_through (map state_in threads)
 all_through [] = refl
 all_through (t ∷ threads) = ap (λ b. is_through t.state && b) (all_through threads)
@@ -60,7 +60,7 @@ pub as_many : (part : ℕ) (specs : List ThreadSpec) (threads : List OnPart) →
     → length threads ≡ length specs
 as_many part specs threads e = sym (length_map state_in threads) ∙ ap length e ∙ length_map (thread_on part) specs
 
--- the items of a list of so many are put in the place of as many
+-- as many new items replace all items of a list
 pub put_back : (n : ℕ) (new old : List OnPart) → n ≡ length old → length new ≡ length old → take n (new ++ drop (length new) old) ≡ new
 put_back n new old many same =
     let over : length old ≤ length new = omega arith in

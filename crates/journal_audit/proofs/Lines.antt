@@ -1,14 +1,14 @@
--- The lines of a text, and a text that is due against the lines that come.
+-- The lines of a text, and a due text compared with the lines that come.
 use Rattle.std.proofs.Common.{◌≡◌, ℕ, suc, ◌+◌, ◌==◌, ◌||◌, ◌&&◌, Bool, true, false, if◌then◌else◌, Some, None, List, [], ◌∷◌, ◌++◌, refl, sym, ap, ◌∙◌, append_assoc, append-nil, add-zero, arith}
 use Rattle.std.proofs.lemmas.Bool.{eq-eqb, eqb-true}
-use Rattle.run_laws.specs.Audit.{Auditing, after_line, behind, first_unfit, has_nothing, is_ended, lines_of}
+use Rattle.run_laws.specs.Audit.{Auditing, after_line, rest_after, first_unfit, has_nothing, is_ended, lines_of}
 use Rattle.nook_data.specs.declared.scenario.Scenario.{Scenario}
 use Rattle.journal_audit.specs.Found.{found_from}
-use Rattle.journal_audit.specs.Placed.{Departs, Follows, Place, begins_with, feeds}
+use Rattle.journal_audit.specs.Position.{Departs, Follows, Position, begins_with, feeds}
 
 -- ---- lines
 
--- a line feed stands in a text
+-- a text has a line feed
 abbrev pub has_feed : List ℕ → Bool
 has_feed [] = false
 has_feed (byte ∷ text) = (byte == 10) || has_feed text
@@ -48,7 +48,7 @@ feed_free [] byte h e = rw e refl
 feed_free (first ∷ p) byte h e =
     rw (or_left (first == 10) (has_feed p) h) (feed_free p byte (or_right (first == 10) (has_feed p) h) e)
 
--- a line's front
+-- a line's prefix
 pub record Fronted (p : List ℕ) (byte : ℕ) (text : List ℕ) : Type 0 where
   pub more : List ℕ
   pub lines : List (List ℕ)
@@ -74,20 +74,20 @@ fronted (first ∷ p) byte rest h =
     longer_front first p byte (p ++ byte ∷ rest) (or_left (first == 10) (has_feed p) h)
     (fronted p byte rest (or_right (first == 10) (has_feed p) h))
 
--- ---- what is behind a line
+-- ---- what follows a line
 
-behind_line : (p due : List ℕ) → behind (p ++ 10 ∷ []) (p ++ 10 ∷ due) ≡ Some due
-behind_line [] due = refl
-behind_line (byte ∷ p) due = rw (eq-eqb byte byte refl) (behind_line p due)
+following_line : (p due : List ℕ) → rest_after (p ++ 10 ∷ []) (p ++ 10 ∷ due) ≡ Some due
+following_line [] due = refl
+following_line (byte ∷ p) due = rw (eq-eqb byte byte refl) (following_line p due)
 
-behind_other : (p : List ℕ) (byte : ℕ) (more : List ℕ) (wanted : ℕ) (due : List ℕ) → (byte == wanted) ≡ false
-    → behind (p ++ byte ∷ more) (p ++ wanted ∷ due) ≡ None
-behind_other [] byte more wanted due e = rw e refl
-behind_other (first ∷ p) byte more wanted due e = rw (eq-eqb first first refl) (behind_other p byte more wanted due e)
+after_other : (p : List ℕ) (byte : ℕ) (more : List ℕ) (expected : ℕ) (due : List ℕ) → (byte == expected) ≡ false
+    → rest_after (p ++ byte ∷ more) (p ++ expected ∷ due) ≡ None
+after_other [] byte more expected due e = rw e refl
+after_other (first ∷ p) byte more expected due e = rw (eq-eqb first first refl) (after_other p byte more expected due e)
 
 -- ---- a text that is due
 
--- the same auditor, who waits for a text
+-- the same auditor, waiting for a text
 abbrev pub owing : Auditing → List ℕ → Auditing
 owing a due = record a { due = due }
 
@@ -95,16 +95,16 @@ after_owed : (scenario : Scenario) (a : Auditing) (p due : List ℕ)
     → after_line scenario (owing a (p ++ 10 ∷ due)) (p ++ 10 ∷ []) ≡ Some (owing a due)
 unfolding after_line
 after_owed scenario a [] due = refl
-after_owed scenario a (byte ∷ p) due = rw (ended (byte ∷ p), eq-eqb byte byte refl, behind_line p due) refl
+after_owed scenario a (byte ∷ p) due = rw (ended (byte ∷ p), eq-eqb byte byte refl, following_line p due) refl
 
-not_next : (scenario : Scenario) (a : Auditing) (p : List ℕ) (byte : ℕ) (more : List ℕ) (wanted : ℕ) (due : List ℕ) (feed : Bool)
-    → is_ended (p ++ byte ∷ more) ≡ feed → (byte == wanted) ≡ false
-    → after_line scenario (owing a (p ++ wanted ∷ due)) (p ++ byte ∷ more) ≡ None
+not_next : (scenario : Scenario) (a : Auditing) (p : List ℕ) (byte : ℕ) (more : List ℕ) (expected : ℕ) (due : List ℕ) (feed : Bool)
+    → is_ended (p ++ byte ∷ more) ≡ feed → (byte == expected) ≡ false
+    → after_line scenario (owing a (p ++ expected ∷ due)) (p ++ byte ∷ more) ≡ None
 unfolding after_line
-not_next scenario a p byte more wanted due false f e = rw f refl
-not_next scenario a [] byte more wanted due true f e = rw (f, e) refl
-not_next scenario a (first ∷ p) byte more wanted due true f e =
-    rw (f, eq-eqb first first refl, behind_other p byte more wanted due e) refl
+not_next scenario a p byte more expected due false f e = rw f refl
+not_next scenario a [] byte more expected due true f e = rw (f, e) refl
+not_next scenario a (first ∷ p) byte more expected due true f e =
+    rw (f, eq-eqb first first refl, after_other p byte more expected due e) refl
 
 owed_step : (scenario : Scenario) (a : Auditing) (p due : List ℕ) (number : ℕ) (lines : List (List ℕ))
     → first_unfit scenario (owing a (p ++ 10 ∷ due)) number ((p ++ 10 ∷ []) ∷ lines)
@@ -112,7 +112,7 @@ owed_step : (scenario : Scenario) (a : Auditing) (p due : List ℕ) (number : �
 unfolding first_unfit
 owed_step scenario a p due number lines = rw (after_owed scenario a p due, first_unfit) refl
 
--- a due text ends a line, or nothing is begun
+-- a due text ends a line, or it is empty and no line is begun
 abbrev closes : List ℕ → List ℕ → Bool
 closes p [] = has_nothing p
 closes p (byte ∷ due) = is_ended (byte ∷ due)
@@ -171,7 +171,7 @@ unfolding first_unfit
 none_left scenario a byte due number =
     elim a.last as (λ last. (if last && false then None else Some number) ≡ Some number) [ true ↦ refl | false ↦ refl ]
 
--- a text does not go on as it should
+-- a text does not continue as it should
 stuck_at : (scenario : Scenario) (a : Auditing) (p : List ℕ) (byte : ℕ) (due left : List ℕ) (number : ℕ) → has_feed p ≡ false
     → begins_with byte left ≡ false
     → first_unfit scenario (owing a (p ++ byte ∷ due)) number (lines_of (p ++ left)) ≡ Some number
@@ -208,22 +208,22 @@ due_departs scenario a (first ∷ front) p byte more left number h b =
           (due_departs scenario a front (p ++ first ∷ []) byte more left number (feed_free p first h e) b)
     ] refl
 
--- ---- a text that is due, from a place on
+-- ---- a due text, from a position on
 
 closes_ended : (text : List ℕ) → is_ended text ≡ true → closes [] text ≡ true
 closes_ended [] h = refl
 closes_ended (byte ∷ text) h = h
 
--- the text stands at the place: what is behind it is as if it had not been due
-pub due_followed : (scenario : Scenario) (a : Auditing) (text : List ℕ) (p q : Place) → is_ended text ≡ true
+-- the text is at the position: what comes after it is as if the text had not been due
+pub due_followed : (scenario : Scenario) (a : Auditing) (text : List ℕ) (p q : Position) → is_ended text ≡ true
     → Follows text p q → found_from scenario (owing a text) p ≡ found_from scenario (owing a []) q
 due_followed scenario a text p q h f =
     ap (λ rest. first_unfit scenario (owing a text) p.number (lines_of rest)) f.rest
     ∙ (due_fits scenario a text q.rest [] p.number refl (closes_ended text h)
     ∙ ap (λ n. first_unfit scenario (owing a []) n (lines_of q.rest)) (sym f.number))
 
--- it does not stand there: the line of the first byte that differs does not fit
-pub due_departed : (scenario : Scenario) (a : Auditing) (text : List ℕ) (p : Place) (line : ℕ) → is_ended text ≡ true
+-- the text is not there: the line of the first byte that differs does not fit
+pub due_departed : (scenario : Scenario) (a : Auditing) (text : List ℕ) (p : Position) (line : ℕ) → is_ended text ≡ true
     → Departs text p line → found_from scenario (owing a text) p ≡ Some line
 due_departed scenario a text p line h d =
     ap (λ due. first_unfit scenario (owing a due) p.number (lines_of p.rest)) d.whole

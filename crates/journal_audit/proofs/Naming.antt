@@ -44,7 +44,7 @@ pub named_nothing : (s : Section) (line : List ℕ) → false ≡ bytes_eq (word
 unfolding step_named
 named_nothing s line a b c d e = rw (← a, ← b, ← c, ← d, ← e) refl
 
--- what is found of a step is what the line names
+-- the step that is found is the one that the line names
 pub found_named : (r : Result (Option Step) NoMemory) (found named : Option Step) → IfOk r (λ step. step ≡ found) → named ≡ found
     → IfOk r (λ step. step ≡ named)
 found_named (Ok step) found named h e = h ∙ sym e

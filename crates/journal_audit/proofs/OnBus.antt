@@ -5,7 +5,7 @@ use Rattle.request_taps.proofs.Settled.{settled_all}
 use Rattle.request_taps.specs.Bus.{settled}
 use Rattle.request_taps.specs.declared.tap.Tap.{Tap}
 
--- a bus of listeners that hear so much
+-- a bus of listeners that hear this much
 pub own_settled : {L B E : Type 0} (r : Result B E) (taps : B → List (Tap Listening)) (listening : L → Listening) (listeners : List L) (own : List Listening)
     → map listening listeners ≡ own → IfOk r (λ bus. taps bus ≡ map (λ l. settled (listening l)) listeners)
     → IfOk r (λ bus. taps bus ≡ map settled own)

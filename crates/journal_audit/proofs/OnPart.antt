@@ -2,10 +2,10 @@
 use Rattle.std.proofs.Common.{◌≡◌, ℕ, true, Some, List, [], ◌∷◌, slice_get, refl, ap, filter, eqb-true}
 use Rattle.run_laws.specs.Audit.{is_on}
 use Rattle.nook_data.specs.declared.calls.Op.{Op}
-use Rattle.part_laws.proofs.Places.{some_same}
+use Rattle.part_laws.proofs.Indices.{some_same}
 use Rattle.journal_audit.specs.Sections.{is_at}
 
--- the first operation, where it is on the part
+-- the first operation, if it is on the part
 pub next_on : (part : ℕ) (ops : List (ℕ × Op)) (o : ℕ × Op) → is_at part ops ≡ true → slice_get ops 0 ≡ Some o
     → (more : List (ℕ × Op)) × (filter (is_on part) ops ≡ (part, o.1) ∷ more)
 next_on part [] o h g = absurd cc

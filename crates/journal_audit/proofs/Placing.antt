@@ -1,4 +1,4 @@
--- A place in a text, and the next line there.
+-- A position in a text, and the next line there.
 use Rattle.std.proofs.Common.{◌≡◌, ℕ, suc, ◌+◌, ◌<◌, ◌≤◌, ◌==◌, Bool, true, false, if◌then◌else◌, cond, count_by, nat_lt, Some, None, List, [], ◌∷◌, ◌++◌, length, take, drop, refl, sym, ap, ◌∙◌, subst, append_assoc, length-append, arith, true≢false, lt-ltb, le-ltb}
 use Rattle.std.proofs.lemmas.Bool.{eqb-true}
 use Rattle.std.proofs.lemmas.List.{take_at, drop_at}
@@ -6,7 +6,7 @@ use Rattle.std.proofs.lemmas.List.Recursion.{is_count_by}
 use Rattle.std.specs.List.{position, position_or_len}
 use Rattle.run_laws.specs.Audit.{lines_of}
 use Rattle.journal_audit.proofs.Lines.{ended, has_feed, last_line, line_split, or_left, or_right, unended}
-use Rattle.journal_audit.specs.Placed.{HasNoLine, IsNextLine, Place, begin_unended, feeds, past}
+use Rattle.journal_audit.specs.Position.{HasNoLine, IsNextLine, Position, begin_unended, feeds, past}
 
 -- ---- the first line feed
 
@@ -16,10 +16,10 @@ is_feed byte = byte == 10
 -- the first line feed of a text
 pub record FirstFeed (text : List ℕ) : Type 0 where
   pub front : List ℕ
-  pub behind : List ℕ
-  pub is : text ≡ front ++ 10 ∷ behind
+  pub rest_after : List ℕ
+  pub is : text ≡ front ++ 10 ∷ rest_after
   pub free : has_feed front ≡ false
-  pub place : position_or_len is_feed text ≡ length front
+  pub index : position_or_len is_feed text ≡ length front
 
 first_feed : (text : List ℕ) → has_feed text ≡ true → FirstFeed text
 first_feed [] h = absurd (true≢false (sym h))
@@ -27,19 +27,19 @@ first_feed (byte ∷ text) h =
     elim (byte == 10) as (λ feed. (byte == 10) ≡ feed → FirstFeed (byte ∷ text)) [
       | true ↦ λ e. record {
         front = [];
-        behind = text;
+        rest_after = text;
         is = ap {B = List ℕ} (λ (b : ℕ). b ∷ text) (eqb-true byte 10 e);
         free = refl;
-        place = rw e refl;
+        index = rw e refl;
       }
       | false ↦ λ e.
           let k : FirstFeed text = first_feed text (rw e at h) in
           record {
             front = byte ∷ k.front;
-            behind = k.behind;
+            rest_after = k.rest_after;
             is = ap {B = List ℕ} (λ (t : List ℕ). byte ∷ t) k.is;
             free = rw e (k.free);
-            place = rw (e, k.place) (one_more (length k.front));
+            index = rw (e, k.index) (one_more (length k.front));
           }
     ] refl
   where
@@ -66,8 +66,8 @@ position_none text h = at_end (position_or_len is_feed text) (length text) (none
 position_some : (text : List ℕ) (f : FirstFeed text) → position is_feed text ≡ Some (length f.front)
 position_some text f =
     within (position_or_len is_feed text) (length text)
-    (rw (f.place, ap length f.is, length-append f.front (10 ∷ f.behind)) (shorter (length f.front) (length f.behind)))
-    ∙ ap Some f.place
+    (rw (f.index, ap length f.is, length-append f.front (10 ∷ f.rest_after)) (shorter (length f.front) (length f.rest_after)))
+    ∙ ap Some f.index
   where
     shorter : (a b : ℕ) → a < a + suc b
     shorter a b = omega arith
@@ -78,15 +78,15 @@ fed_once : (front : List ℕ) → has_feed front ≡ false → feeds (front ++ 1
 fed_once [] h = refl
 fed_once (byte ∷ front) h = rw (or_left (byte == 10) (has_feed front) h) (fed_once front (or_right (byte == 10) (has_feed front) h))
 
-next_line : (p : Place) (f : FirstFeed p.rest) → IsNextLine p (f.front ++ 10 ∷ [])
+next_line : (p : Position) (f : FirstFeed p.rest) → IsNextLine p (f.front ++ 10 ∷ [])
 next_line p f =
     let line : List ℕ = f.front ++ 10 ∷ [] in
-    let whole : p.rest ≡ line ++ f.behind = f.is ∙ sym (append_assoc f.front (10 ∷ []) f.behind) in
+    let whole : p.rest ≡ line ++ f.rest_after = f.is ∙ sym (append_assoc f.front (10 ∷ []) f.rest_after) in
     record {
-      front = ap (take (length line)) whole ∙ take_at line f.behind (length line) refl;
-      within = rw (whole, length-append line f.behind) (longer (length line) (length f.behind));
-      lines = ap lines_of f.is ∙ (line_split f.front f.behind f.free
-          ∙ ap (λ rest. line ∷ lines_of rest) (sym (ap (drop (length line)) whole ∙ drop_at line f.behind (length line) refl)));
+      front = ap (take (length line)) whole ∙ take_at line f.rest_after (length line) refl;
+      within = rw (whole, length-append line f.rest_after) (longer (length line) (length f.rest_after));
+      lines = ap lines_of f.is ∙ (line_split f.front f.rest_after f.free
+          ∙ ap (λ rest. line ∷ lines_of rest) (sym (ap (drop (length line)) whole ∙ drop_at line f.rest_after (length line) refl)));
       ended = ended f.front;
       feeds = fed_once f.front f.free;
     }
@@ -94,7 +94,7 @@ next_line p f =
     longer : (a b : ℕ) → a ≤ a + b
     longer a b = omega arith
 
-pub line_found : (p : Place) (end : ℕ) → position is_feed p.rest ≡ Some end → IsNextLine p (take (end + 1) p.rest)
+pub line_found : (p : Position) (end : ℕ) → position is_feed p.rest ≡ Some end → IsNextLine p (take (end + 1) p.rest)
 line_found p end e =
     elim (has_feed p.rest) as (λ feed. has_feed p.rest ≡ feed → IsNextLine p (take (end + 1) p.rest)) [
       | true ↦ λ h.
@@ -108,16 +108,16 @@ line_found p end e =
 
     cut : (f : FirstFeed p.rest) → length f.front ≡ end → take (end + 1) p.rest ≡ f.front ++ 10 ∷ []
     cut f at =
-        ap (take (end + 1)) (f.is ∙ sym (append_assoc f.front (10 ∷ []) f.behind))
-        ∙ take_at (f.front ++ 10 ∷ []) f.behind (end + 1) (length-append f.front (10 ∷ []) ∙ ap (λ (n : ℕ). n + 1) at)
+        ap (take (end + 1)) (f.is ∙ sym (append_assoc f.front (10 ∷ []) f.rest_after))
+        ∙ take_at (f.front ++ 10 ∷ []) f.rest_after (end + 1) (length-append f.front (10 ∷ []) ∙ ap (λ (n : ℕ). n + 1) at)
 
-none_stands : (rest : List ℕ) → has_feed rest ≡ false → begin_unended (lines_of rest) ≡ true
+none_holds : (rest : List ℕ) → has_feed rest ≡ false → begin_unended (lines_of rest) ≡ true
 unfolding lines_of
-none_stands [] h = refl
-none_stands (byte ∷ rest) h = rw (last_line byte rest h, unended (byte ∷ rest) h) refl
+none_holds [] h = refl
+none_holds (byte ∷ rest) h = rw (last_line byte rest h, unended (byte ∷ rest) h) refl
 
-pub no_line_found : (p : Place) → position is_feed p.rest ≡ None → HasNoLine p p.number
-no_line_found p e = record { unended = none_stands p.rest free; at = refl }
+pub no_line_found : (p : Position) → position is_feed p.rest ≡ None → HasNoLine p p.number
+no_line_found p e = record { unended = none_holds p.rest free; at = refl }
   where
     free : has_feed p.rest ≡ false
     free =
@@ -143,11 +143,11 @@ feeds_counted = is_count_by feeds is_feed refl (λ byte text. counted (byte == 1
     counted true n = omega arith
     counted false n = refl
 
-abbrev place_at : List ℕ → ℕ → Place
-place_at rest number = record { rest = rest; number = number }
+abbrev position_at : List ℕ → ℕ → Position
+position_at rest number = record { rest = rest; number = number }
 
-pub past_is : (count : ℕ) (rest : List ℕ) (number : ℕ) (front behind : List ℕ) (lines : ℕ) → front ≡ take count rest
-    → behind ≡ drop count rest → lines ≡ count_by is_feed front → place_at behind (number + lines) ≡ past count (place_at rest number)
-past_is count rest number front behind lines f b many =
+pub past_is : (count : ℕ) (rest : List ℕ) (number : ℕ) (front rest_after : List ℕ) (lines : ℕ) → front ≡ take count rest
+    → rest_after ≡ drop count rest → lines ≡ count_by is_feed front → position_at rest_after (number + lines) ≡ past count (position_at rest number)
+past_is count rest number front rest_after lines f b many =
     let fed : lines ≡ feeds (take count rest) = many ∙ (sym (feeds_counted front) ∙ ap feeds f) in
-    ap (λ r. place_at r (number + lines)) b ∙ ap (λ n. place_at (drop count rest) (number + n)) fed
+    ap (λ r. position_at r (number + lines)) b ∙ ap (λ n. position_at (drop count rest) (number + n)) fed

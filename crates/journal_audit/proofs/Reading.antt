@@ -1,4 +1,4 @@
--- Lines of events one after another: what they lead to, and that they fit.
+-- Consecutive lines of events: the section to which they lead, and that they fit.
 use Rattle.std.proofs.Common.{◌≡◌, ℕ, suc, ◌+◌, Bool, true, Option, Some, None, List, [], ◌∷◌, ◌++◌, length, refl, sym, ap, ◌∙◌, subst, append_assoc, append-nil, add-zero, length-append, arith}
 use Rattle.std.proofs.lemmas.Bool.{and_parts}
 use Rattle.std.proofs.lemmas.Slice.Eq.{bytes_eq-Decides}
@@ -7,7 +7,7 @@ use Rattle.nook_data.specs.declared.steps.Event.{Event}
 use Rattle.nook_data.specs.declared.steps.Step.{Step}
 use Rattle.part_defs.specs.Runs.{event_of, step_of}
 use Rattle.part_defs.specs.Steps.{enabled}
-use Rattle.part_laws.proofs.Places.{split}
+use Rattle.part_laws.proofs.Indices.{split}
 use Rattle.part_laws.proofs.RunsDetermined.{step_named as step_of_event}
 use Rattle.report_defs.specs.ReportLines.{event_line, event_lines}
 use Rattle.run_laws.proofs.Nexts.{named_next}
@@ -16,17 +16,17 @@ use Rattle.run_laws.specs.Fitting.{FitsFrom, IsNext, section_from}
 use Rattle.journal_audit.proofs.Finding.{OfPart, event_fits, event_same_part, line_fits}
 use Rattle.journal_audit.proofs.Following.{follows_both, follows_none, line_passed}
 use Rattle.journal_audit.specs.Found.{inside}
-use Rattle.journal_audit.specs.Placed.{Follows, IsNextLine, PassesLine, Place, past}
+use Rattle.journal_audit.specs.Position.{Follows, IsNextLine, PassesLine, Position, past}
 use Rattle.journal_audit.specs.Readings.{Reads}
 use Rattle.journal_audit.specs.Sections.{IsAfter}
 
 -- ---- no line
 
-pub reads_none : (s : Section) (p : Place) → Reads s s p p
+pub reads_none : (s : Section) (p : Position) → Reads s s p p
 unfolding event_lines
 reads_none s p = record {
   same = λ scenario sections coming. refl;
-  place = refl;
+  index = refl;
   spec = refl;
   events = [];
   leads = refl;
@@ -49,10 +49,10 @@ lines_both n (e ∷ a) b =
     let m : suc n + length a ≡ n + suc (length a) = omega arith in
     rw (lines_both (suc n) a b, m) (sym (append_assoc (event_line n e) (event_lines (suc n) a) (event_lines (n + suc (length a)) b)))
 
-pub reads_more : (s t u : Section) (p q r : Place) → Reads s t p q → Reads t u q r → Reads s u p r
+pub reads_more : (s t u : Section) (p q r : Position) → Reads s t p q → Reads t u q r → Reads s u p r
 reads_more s t u p q r a b = record {
   same = λ scenario sections coming. a.same scenario sections coming ∙ b.same scenario sections coming;
-  place = b.place ∙ a.place;
+  index = b.index ∙ a.index;
   spec = b.spec ∙ a.spec;
   events = a.events ++ b.events;
   leads = led_both s a.events b.events ∙ (ap (λ (x : Section). section_from x b.events) a.leads ∙ b.leads);
@@ -102,7 +102,7 @@ step_taken : (s t : Section) (line : List ℕ) → after_event s line ≡ Some t
 unfolding after_event
 step_taken s t line h = step_by s t line (step_named s line) refl h
 
--- an event that a section's step makes, before events that fit after it
+-- an event that a section's step makes, followed by events that fit after it
 event_before : (s : Section) (taken : Step) (events : List Event) → enabled s.seat.run.state taken ≡ true → IsNext s taken
     → FitsFrom (section_after s taken) events → FitsFrom s (event_of s.seat.run.state taken ∷ events)
 unfolding FitsFrom
@@ -119,7 +119,7 @@ one_event_line : (n : ℕ) (e : Event) → event_line n e ≡ event_lines n (e �
 unfolding event_lines
 one_event_line n e = sym (append-nil (event_line n e))
 
-reads_line : (s t : Section) (p : Place) (line : List ℕ) → IsNextLine p line → is_numbered line ≡ true → after_event s line ≡ Some t
+reads_line : (s t : Section) (p : Position) (line : List ℕ) → IsNextLine p line → is_numbered line ≡ true → after_event s line ≡ Some t
     → Reads s t p (past (length line) p)
 reads_line s t p line n numbered e =
     let part : OfPart s t = event_same_part s t line e in
@@ -129,7 +129,7 @@ reads_line s t p line n numbered e =
     record {
       same = λ scenario sections coming.
           line_fits scenario (inside sections s coming) (inside sections t coming) p line n (event_fits scenario sections s t coming line n.ended numbered e);
-      place = part.place;
+      index = part.index;
       spec = part.spec;
       events = made ∷ [];
       leads = ap (section_after s) (step_of_event s.seat.run.state k.taken) ∙ k.after;
@@ -143,6 +143,6 @@ reads_line s t p line n numbered e =
     one_more n = omega arith
 
 -- a line of an event was taken
-pub reads_taken : (s t : Section) (p : Place) (line : List ℕ) (fits : Bool) → IsNextLine p line → is_numbered line ≡ true → fits ≡ true
+pub reads_taken : (s t : Section) (p : Position) (line : List ℕ) (fits : Bool) → IsNextLine p line → is_numbered line ≡ true → fits ≡ true
     → IsAfter fits (after_event s line) t → Reads s t p (past (length line) p)
 reads_taken s t p line fits n numbered e h = reads_line s t p line n numbered (subst (λ f. IsAfter f (after_event s line) t) e h)

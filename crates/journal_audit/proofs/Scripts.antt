@@ -31,7 +31,7 @@ script_next ops i o given made whole a more less is e w =
     rw (add-one i, drop-cons ops i o less, ← is) (answer_next o (drop (suc i) ops) given a more e) in
     w ∙ (ap (λ l. made ++ l) whole' ∙ sym (append_assoc made (a ∷ []) (in_script_order (drop (i + 1) ops) (slice_set given o.0 more))))
 
--- it has none
+-- the next operation's part has no answer
 pub script_over : (ops : List (ℕ × Op)) (i : ℕ) (o : ℕ × Op) (given : List (List (ℕ × Answer))) (made whole : List (ℕ × Answer))
     → i < length ops → o ≡ get_or ops i o → slice_index_or given o.0 [] ≡ [] → whole ≡ made ++ in_script_order (drop i ops) given
     → made ≡ whole
@@ -53,15 +53,15 @@ pub given_to : (thread : ℕ) (past : List Done)
 given_to thread [] = refl
 given_to thread (d ∷ past) = ap (λ l. slice_index_or d.answers thread [] ∷ l) (given_to thread past)
 
-order_back : (place : ℕ) (threads : List ThreadSpec) (t : ThreadSpec) (past : List Done)
-    → answers_in_order place (threads ++ t ∷ []) past
-    ≡ answers_in_order place threads past ++ in_script_order t.ops (map (answers_to (place + length threads)) past) ∷ []
-order_back place [] t past = rw (add-zero place) refl
-order_back place (x ∷ threads) t past =
-    let n : suc place + length threads ≡ place + suc (length threads) = omega arith in
-    ap (λ l. in_script_order x.ops (map (answers_to place) past) ∷ l)
-    (order_back (suc place) threads t past
-    ∙ ap (λ k. answers_in_order (suc place) threads past ++ in_script_order t.ops (map (answers_to k) past) ∷ []) n)
+order_back : (index : ℕ) (threads : List ThreadSpec) (t : ThreadSpec) (past : List Done)
+    → answers_in_order index (threads ++ t ∷ []) past
+    ≡ answers_in_order index threads past ++ in_script_order t.ops (map (answers_to (index + length threads)) past) ∷ []
+order_back index [] t past = rw (add-zero index) refl
+order_back index (x ∷ threads) t past =
+    let n : suc index + length threads ≡ index + suc (length threads) = omega arith in
+    ap (λ l. in_script_order x.ops (map (answers_to index) past) ∷ l)
+    (order_back (suc index) threads t past
+    ∙ ap (λ k. answers_in_order (suc index) threads past ++ in_script_order t.ops (map (answers_to k) past) ∷ []) n)
 
 -- one more thread's answers
 pub order_more : (threads : List ThreadSpec) (i : ℕ) (d : ThreadSpec) (past : List Done) (given : List (List (ℕ × Answer)))

@@ -11,10 +11,10 @@ use Rattle.nook_data.specs.declared.scenario.PartSpec.{PartSpec}
 use Rattle.nook_data.specs.declared.steps.Step.{Step}
 use Rattle.nook_data.specs.declared.memory.NoMemory.{NoMemory}
 use Rattle.part_laws.proofs.DeviceStays.{opening_spec, spec_after}
-use Rattle.part_laws.proofs.Places.{get_mid, some_same}
+use Rattle.part_laws.proofs.Indices.{get_mid, some_same}
 use Rattle.journal_audit.specs.Sections.{AreOn, IsTaken, OnPart, state_in, newest_in, with_threads}
 
--- the newest event of a journal that one was added to
+-- the newest event of a journal is the one added last
 newest_added : (events : List Event) (e : Event) → newest_in (events ++ e ∷ []) ≡ Some e
 newest_added events e =
     let size : length (events ++ e ∷ []) - 1 ≡ length events = less (length (events ++ e ∷ [])) (length events) (length-append events (e ∷ [])) in
@@ -28,7 +28,7 @@ pub none_named : (s : Section) (line : List ℕ) → None ≡ step_named s line 
 unfolding after_event
 none_named s line h = ap (after_step s line) (sym h)
 
--- a step was taken where the test says so
+-- a step was taken if the test says so
 pub is_taken : (s t : Section) (step : Step) (taken : Bool) → taken ≡ true → IsTaken taken s step t → IsTaken true s step t
 is_taken s t step taken e h = let P : Bool → Type 0 = λ b. IsTaken b s step t in subst P e h
 
@@ -76,14 +76,14 @@ other_line s t line step same h taken e other =
 
 -- the threads of a section note its newest event
 abbrev pub HaveHeard : Section → Section → Type 0
-HaveHeard t u = (event : Event) → newest_in t.seat.run.journal ≡ Some event → u ≡ with_threads t (threads_after 0 t.place event t.threads)
+HaveHeard t u = (event : Event) → newest_in t.seat.run.journal ≡ Some event → u ≡ with_threads t (threads_after 0 t.index event t.threads)
 
 all_taken : (s t u : Section) (step : Step) → IsTaken true s step t → HaveHeard t u → section_after s step ≡ u
 unfolding section_after
 all_taken s t u step taken heard =
     let e = event_of s.seat.run.state step in
-    let all : u ≡ with_threads t (threads_after 0 t.place e t.threads) = heard e (taken_newest s t step taken) in
-    sym (all ∙ ap (λ (x : Section). with_threads x (threads_after 0 x.place e x.threads)) taken.1)
+    let all : u ≡ with_threads t (threads_after 0 t.index e t.threads) = heard e (taken_newest s t step taken) in
+    sym (all ∙ ap (λ (x : Section). with_threads x (threads_after 0 x.index e x.threads)) taken.1)
 
 -- the line is that of the step's event
 pub line_fits : (s t u : Section) (line : List ℕ) (step : Step) (same : Bool) → Some step ≡ step_named s line → IsTaken true s step t
@@ -102,16 +102,16 @@ spec_at_first q made spec e h = ap (λ (x : PartRun). x.state.spec) e ∙ openin
 
 -- the threads note the newest event
 pub note_newest : (r : Result (Unit {0}) NoMemory) (s t : Section) (threads : List ThreadState) (e : Event) → newest_in s.seat.run.journal ≡ Some e
-    → t ≡ with_threads s threads → OnOk r (threads ≡ threads_after 0 s.place e s.threads) → OnOk r (HaveHeard s t)
+    → t ≡ with_threads s threads → OnOk r (threads ≡ threads_after 0 s.index e s.threads) → OnOk r (HaveHeard s t)
 note_newest (Err x) s t threads e h same n = tt
 note_newest (Ok x) s t threads e h same n =
-    λ event g. same ∙ ap (with_threads s) (n ∙ ap (λ (x : Event). threads_after 0 s.place x s.threads) (some_same e event (sym h ∙ g)))
+    λ event g. same ∙ ap (with_threads s) (n ∙ ap (λ (x : Event). threads_after 0 s.index x s.threads) (some_same e event (sym h ∙ g)))
 
-pub threads_noted : (r : Result (Unit {0}) NoMemory) (place : ℕ) (e : Event) (old given new : List OnPart) → given ≡ old → AreOn place old
+pub threads_noted : (r : Result (Unit {0}) NoMemory) (index : ℕ) (e : Event) (old given new : List OnPart) → given ≡ old → AreOn index old
     → ((part : ℕ) → AreOn part given → OnOk r (map state_in new ≡ threads_after 0 part e (map state_in given)))
-    → OnOk r (map state_in new ≡ threads_after 0 place e (map state_in old))
-threads_noted r place e old given new same on noted = rw (← same) (noted place (rw same on))
+    → OnOk r (map state_in new ≡ threads_after 0 index e (map state_in old))
+threads_noted r index e old given new same on noted = rw (← same) (noted index (rw same on))
 
-pub parts_noted : (place : ℕ) (old given new : List OnPart) → given ≡ old → AreOn place old
-    → ((part : ℕ) → AreOn part given → AreOn part new) → AreOn place new
-parts_noted place old given new same on noted = noted place (rw same on)
+pub parts_noted : (index : ℕ) (old given new : List OnPart) → given ≡ old → AreOn index old
+    → ((part : ℕ) → AreOn part given → AreOn part new) → AreOn index new
+parts_noted index old given new same on noted = noted index (rw same on)

@@ -7,7 +7,7 @@ use Rattle.nook_data.specs.declared.scenario.PartSpec.{PartSpec}
 use Rattle.nook_data.specs.declared.scenario.Scenario.{Scenario}
 use Rattle.nook_data.specs.declared.scenario.ThreadSpec.{ThreadSpec}
 use Rattle.nook_data.specs.declared.steps.Event.{Event}
-use Rattle.order_defs.specs.OutOfOrder.{Finds, FindsBehind, first_left}
+use Rattle.order_defs.specs.OutOfOrder.{Finds, FindsAfter, first_left}
 use Rattle.order_defs.specs.Taking.{opening_taking}
 use Rattle.report_defs.specs.ReportLines.{event_lines}
 use Rattle.report_defs.specs.ReportText.{part_line, part_text, parts_text}
@@ -20,7 +20,7 @@ use Rattle.journal_audit.proofs.LinesFound.{ends_many, lines_same}
 use Rattle.journal_audit.specs.Found.{ArePast, FitsByItself, at_last, between, found_from, inside}
 use Rattle.journal_audit.specs.LinesLeft.{FirstLeftIs, event_ends, left_line}
 use Rattle.journal_audit.specs.PastSections.{Past, SumsUp}
-use Rattle.journal_audit.specs.Placed.{Follows, PassesLine, Place, feeds}
+use Rattle.journal_audit.specs.Position.{Follows, PassesLine, Position, feeds}
 use Rattle.journal_audit.specs.Readings.{Reads}
 use Rattle.journal_audit.specs.Stopping.{Checks, Leads}
 use Rattle.journal_audit.specs.declared.stop.Stop.{Stop}
@@ -28,54 +28,54 @@ use Rattle.journal_audit.specs.declared.stop.Stop.TheVariants as stops
 
 -- ---- one section
 
--- the section of a part stands whole between two places, and this is the number of the line after its events
-pub record IsRead (threads : List ThreadSpec) (place : ℕ) (spec : PartSpec) (s : Section) (p q : Place) (end : ℕ) : Type 0 where
-  pub fits : Fits threads place spec s.seat.run.journal
-  pub leads : section_from (opening_section threads place spec) s.seat.run.journal ≡ s
-  pub text : Follows (part_text place spec s.seat.run.journal) p q
+-- the section of a part is complete between two positions, and this is the number of the line after its events
+pub record IsRead (threads : List ThreadSpec) (index : ℕ) (spec : PartSpec) (s : Section) (p q : Position) (end : ℕ) : Type 0 where
+  pub fits : Fits threads index spec s.seat.run.journal
+  pub leads : section_from (opening_section threads index spec) s.seat.run.journal ≡ s
+  pub text : Follows (part_text index spec s.seat.run.journal) p q
   pub end_is : end ≡ p.number + suc (length s.seat.run.journal)
 
-module _ (threads : List ThreadSpec) (place : ℕ) (spec : PartSpec) (s : Section) where
-  fits_whole : (p q : Place) (r : Reads (opening_section threads place spec) s p q) → is_complete s ≡ true
-      → FitsFrom (opening_section threads place spec) r.events
+module _ (threads : List ThreadSpec) (index : ℕ) (spec : PartSpec) (s : Section) where
+  fits_whole : (p q : Position) (r : Reads (opening_section threads index spec) s p q) → is_complete s ≡ true
+      → FitsFrom (opening_section threads index spec) r.events
   unfolding FitsFrom
   fits_whole p q r complete =
-      subst (FitsFrom (opening_section threads place spec)) (append-nil r.events) (r.fits [] complete)
+      subst (FitsFrom (opening_section threads index spec)) (append-nil r.events) (r.fits [] complete)
 
-  text_whole : (p q : Place) (r : Reads (opening_section threads place spec) s p q)
-      → FitsFrom (opening_section threads place spec) r.events
-      → part_line place spec ++ (event_lines 1 r.events ++ section_end s) ≡ part_text place spec r.events
+  text_whole : (p q : Position) (r : Reads (opening_section threads index spec) s p q)
+      → FitsFrom (opening_section threads index spec) r.events
+      → part_line index spec ++ (event_lines 1 r.events ++ section_end s) ≡ part_text index spec r.events
   unfolding part_text
   text_whole p q r fits =
-      ap (λ text. part_line place spec ++ (event_lines 1 r.events ++ text))
-      (ap section_end (sym r.leads) ∙ section_end_is threads place spec r.events fits)
+      ap (λ text. part_line index spec ++ (event_lines 1 r.events ++ text))
+      (ap section_end (sym r.leads) ∙ section_end_is threads index spec r.events fits)
 
-  pub read_whole : (p q u v : Place) → PassesLine (part_line place spec) p q → Reads (opening_section threads place spec) s q u
-      → is_complete s ≡ true → Follows (section_end s) u v → IsRead threads place spec s p v u.number
+  pub read_whole : (p q u v : Position) → PassesLine (part_line index spec) p q → Reads (opening_section threads index spec) s q u
+      → is_complete s ≡ true → Follows (section_end s) u v → IsRead threads index spec s p v u.number
   read_whole p q u v line r complete ended =
       let same : s.seat.run.journal ≡ r.events = r.journal in
-      let fits : FitsFrom (opening_section threads place spec) r.events = fits_whole q u r complete in
+      let fits : FitsFrom (opening_section threads index spec) r.events = fits_whole q u r complete in
       let many : length s.seat.run.journal ≡ length r.events = ap length same in
       let next : q.number ≡ suc p.number = line.next in
       let lines : u.number ≡ q.number + length r.events = r.lines in
       record {
-        fits = subst (Fits threads place spec) (sym same) fits;
-        leads = ap (section_from (opening_section threads place spec)) same ∙ r.leads;
+        fits = subst (Fits threads index spec) (sym same) fits;
+        leads = ap (section_from (opening_section threads index spec)) same ∙ r.leads;
         text =
-            subst (λ text. Follows text p v) (text_whole q u r fits ∙ ap (part_text place spec) (sym same))
-            (follows_both (part_line place spec) (event_lines 1 r.events ++ section_end s) p q v line.follows
+            subst (λ text. Follows text p v) (text_whole q u r fits ∙ ap (part_text index spec) (sym same))
+            (follows_both (part_line index spec) (event_lines 1 r.events ++ section_end s) p q v line.follows
             (follows_both (event_lines 1 r.events) (section_end s) q u v r.follows ended));
         end_is = omega arith;
       }
 
 -- one more section is past
-past_more : (scenario : Scenario) (first : Place) (specs coming : List PartSpec) (spec : PartSpec) (place : ℕ) (s : Section) (p q : Place) (t u : Past)
-    (end : ℕ) (past : ArePast scenario first specs (spec ∷ coming) p t) → length specs ≡ place → s.spec ≡ spec
-    → IsRead scenario.threads place spec s p q end
+past_more : (scenario : Scenario) (first : Position) (specs coming : List PartSpec) (spec : PartSpec) (index : ℕ) (s : Section) (p q : Position) (t u : Past)
+    (end : ℕ) (past : ArePast scenario first specs (spec ∷ coming) p t) → length specs ≡ index → s.spec ≡ spec
+    → IsRead scenario.threads index spec s p q end
     → found_from scenario (opening_audit scenario) first ≡ found_from scenario (between (past.sections ++ done_of s ∷ []) coming) q
     → SumsUp (specs ++ s.spec ∷ []) (past.sections ++ done_of s ∷ []) u → u.ends ≡ t.ends ++ end ∷ []
     → ArePast scenario first (specs ++ spec ∷ []) coming q u
-past_more scenario first specs coming spec place s p q t u end past at same read found sums ended =
+past_more scenario first specs coming spec index s p q t u end past at same read found sums ended =
     record {
       sections = past.sections ++ done_of s ∷ [];
       sums = subst (λ (x : PartSpec). SumsUp (specs ++ x ∷ []) (past.sections ++ done_of s ∷ []) u) same sums;
@@ -93,7 +93,7 @@ past_more scenario first specs coming spec place s p q t u end past at same read
           subst (λ text. Follows text first q)
           (ap (λ (n : ℕ). parts_text 0 specs t.journals ++ part_text n spec journal) (sym number)
           ∙ (sym (parts_back scenario.threads spec journal 0 specs t.journals past.fit) ∙ ap (parts_text 0 (specs ++ spec ∷ [])) (sym journals)))
-          (follows_both (parts_text 0 specs t.journals) (part_text place spec journal) first p q past.text read.text);
+          (follows_both (parts_text 0 specs t.journals) (part_text index spec journal) first p q past.text read.text);
       ends =
           ended
           ∙ (ap (λ l. l ++ end ∷ []) past.ends
@@ -108,7 +108,7 @@ past_more scenario first specs coming spec place s p q t u end past at same read
     done : List Done
     done = sections_of scenario.threads 0 specs t.journals
 
-    number : 0 + length specs ≡ place
+    number : 0 + length specs ≡ index
     number = omega arith
 
     journals : u.journals ≡ t.journals ++ journal ∷ []
@@ -116,25 +116,25 @@ past_more scenario first specs coming spec place s p q t u end past at same read
         sums.journals
         ∙ (map-append journal_in past.sections (done_of s ∷ []) ∙ ap (λ l. l ++ journal ∷ []) (sym past.sums.journals))
 
--- the lines behind the events were checked
-pub section_ends : (r : Result (Unit {0}) Stop) (scenario : Scenario) (first : Place) (specs coming : List PartSpec) (spec : PartSpec) (place : ℕ)
-    (s : Section) (p q u v : Place) (t w : Past) (past : ArePast scenario first specs (spec ∷ coming) p t) → length specs ≡ place → s.spec ≡ spec
-    → PassesLine (part_line place spec) p q → Reads (opening_section scenario.threads place spec) s q u
+-- the lines after the events were checked
+pub section_ends : (r : Result (Unit {0}) Stop) (scenario : Scenario) (first : Position) (specs coming : List PartSpec) (spec : PartSpec) (index : ℕ)
+    (s : Section) (p q u v : Position) (t w : Past) (past : ArePast scenario first specs (spec ∷ coming) p t) → length specs ≡ index → s.spec ≡ spec
+    → PassesLine (part_line index spec) p q → Reads (opening_section scenario.threads index spec) s q u
     → found_from scenario (opening_audit scenario) first ≡ found_from scenario (inside past.sections s coming) u
     → Checks r (found_from scenario (inside past.sections s coming) u) (found_from scenario (between (past.sections ++ done_of s ∷ []) coming) v)
     → OnOk r (is_complete s ≡ true) → OnOk r (Follows (section_end s) u v) → OnOk r (w.ends ≡ t.ends ++ u.number ∷ [])
     → OnOk r (SumsUp (specs ++ s.spec ∷ []) (past.sections ++ done_of s ∷ []) w)
     → Leads r (found_from scenario (opening_audit scenario) first) (ArePast scenario first (specs ++ spec ∷ []) coming v w)
-section_ends (Ok done) scenario first specs coming spec place s p q u v t w past at same line reads found checks complete ended ends sums =
-    past_more scenario first specs coming spec place s p v t w u.number past at same
-    (read_whole scenario.threads place spec s p q u v line reads complete ended) (found ∙ checks) sums ends
-section_ends (Err (stops.Unfit number)) scenario first specs coming spec place s p q u v t w past at same line reads found checks complete ended ends sums =
+section_ends (Ok done) scenario first specs coming spec index s p q u v t w past at same line reads found checks complete ended ends sums =
+    past_more scenario first specs coming spec index s p v t w u.number past at same
+    (read_whole scenario.threads index spec s p q u v line reads complete ended) (found ∙ checks) sums ends
+section_ends (Err (stops.Unfit number)) scenario first specs coming spec index s p q u v t w past at same line reads found checks complete ended ends sums =
     found ∙ checks
-section_ends (Err stops.NoMemory) scenario first specs coming spec place s p q u v t w past at same line reads found checks complete ended ends sums = tt
+section_ends (Err stops.NoMemory) scenario first specs coming spec index s p q u v t w past at same line reads found checks complete ended ends sums = tt
 
 -- ---- all sections
 
-pub parts_begun : (scenario : Scenario) (specs : List PartSpec) (p : Place) (t : Past) → specs ≡ scenario.parts → SumsUp [] [] t → t.ends ≡ []
+pub parts_begun : (scenario : Scenario) (specs : List PartSpec) (p : Position) (t : Past) → specs ≡ scenario.parts → SumsUp [] [] t → t.ends ≡ []
     → ArePast scenario p [] specs p t
 unfolding opening_audit AllFit sections_of parts_text
 parts_begun scenario specs p t e sums ends = record {
@@ -147,7 +147,7 @@ parts_begun scenario specs p t e sums ends = record {
   ends = ends;
 }
 
-module _ (scenario : Scenario) (specs : List PartSpec) (i : ℕ) (first p : Place) (t : Past) where
+module _ (scenario : Scenario) (specs : List PartSpec) (i : ℕ) (first p : Position) (t : Past) where
   pub parts_before : i < length specs → length (take i specs) ≡ i
   parts_before h = let within : i ≤ length specs = omega arith in length-take-le i specs within
 
@@ -174,8 +174,8 @@ module _ (scenario : Scenario) (specs : List PartSpec) (i : ℕ) (first p : Plac
 
 -- ---- the whole report
 
--- the lines behind the sections were checked, and that nothing follows
-pub report_ends : (r : Result (Unit {0}) Stop) (scenario : Scenario) (first p q : Place) (t : Past) (past : ArePast scenario first scenario.parts [] p t)
+-- the lines after the sections were checked, and that nothing follows
+pub report_ends : (r : Result (Unit {0}) Stop) (scenario : Scenario) (first p q : Position) (t : Past) (past : ArePast scenario first scenario.parts [] p t)
     → found_from scenario (between past.sections []) p ≡ found_from scenario (at_last past.sections []) q
     → Follows (last_lines scenario past.sections) p q → Checks r (found_from scenario (at_last past.sections []) q) None → OnOk r (q.rest ≡ [])
     → Leads r (found_from scenario (opening_audit scenario) first) (FitsByItself scenario first t)
@@ -193,37 +193,37 @@ report_ends (Ok done) scenario first p q t past same last checks over = record {
 report_ends (Err (stops.Unfit number)) scenario first p q t past same last checks over = past.same ∙ (same ∙ checks)
 report_ends (Err stops.NoMemory) scenario first p q t past same last checks over = tt
 
-audited_from : (scenario : Scenario) (report : List ℕ) (p : Place) → p ≡ record { rest = report; number = 1 }
+audited_from : (scenario : Scenario) (report : List ℕ) (p : Position) → p ≡ record { rest = report; number = 1 }
     → found_from scenario (opening_audit scenario) p ≡ audited scenario report
 unfolding audited
 audited_from scenario report p e = ap (found_from scenario (opening_audit scenario)) e
 
 -- each section has a number of the line after its events
-pub as_many_ends : (scenario : Scenario) (first : Place) (t : Past) → FitsByItself scenario first t → length t.ends ≡ length t.journals
+pub as_many_ends : (scenario : Scenario) (first : Position) (t : Past) → FitsByItself scenario first t → length t.ends ≡ length t.journals
 as_many_ends scenario first t h = ap length h.ends ∙ ends_many scenario.threads first.number 0 scenario.parts t.journals h.fit
 
 -- a line does not fit by itself
-pub finds_unfit : (scenario : Scenario) (report : List ℕ) (p : Place) (line : ℕ) → p ≡ record { rest = report; number = 1 }
+pub finds_unfit : (scenario : Scenario) (report : List ℕ) (p : Position) (line : ℕ) → p ≡ record { rest = report; number = 1 }
     → found_from scenario (opening_audit scenario) p ≡ Some line → Finds scenario report (Some line)
 finds_unfit scenario report p line e h =
-    subst (λ found. FindsBehind scenario report found (Some line)) (sym h ∙ audited_from scenario report p e) refl
+    subst (λ found. FindsAfter scenario report found (Some line)) (sym h ∙ audited_from scenario report p e) refl
 
--- each line fits by itself, and this is the line of the first event that is left
-pub finds_left : (r : Result (Option ℕ) NoMemory) (scenario : Scenario) (report : List ℕ) (p : Place) (t : Past) → p ≡ record { rest = report; number = 1 }
+-- each line fits by itself, and this is the line of the first event left
+pub finds_left : (r : Result (Option ℕ) NoMemory) (scenario : Scenario) (report : List ℕ) (p : Position) (t : Past) → p ≡ record { rest = report; number = 1 }
     → FitsByItself scenario p t → IfOk r (FirstLeftIs scenario.threads t) → IfOk r (Finds scenario report)
 finds_left (Ok line) scenario report p t e h left =
-    subst (λ found. FindsBehind scenario report found line) (sym h.none ∙ audited_from scenario report p e)
+    subst (λ found. FindsAfter scenario report found line) (sym h.none ∙ audited_from scenario report p e)
     (record {
       journals = t.journals;
       fit = h.fit;
-      text_is = ap (λ (x : Place). x.rest) (sym e) ∙ h.text;
+      text_is = ap (λ (x : Position). x.rest) (sym e) ∙ h.text;
       out_of_order = record {
         order = left.order;
         end = left.end;
         leads = left.leads;
         stuck = left.stuck;
         line_is = left.line_is
-            ∙ (ap (λ ends. left_line ends left.end.left) (h.ends ∙ ap (λ (n : ℕ). event_ends n 0 scenario.parts t.journals) (ap (λ (x : Place). x.number) e))
+            ∙ (ap (λ ends. left_line ends left.end.left) (h.ends ∙ ap (λ (n : ℕ). event_ends n 0 scenario.parts t.journals) (ap (λ (x : Position). x.number) e))
             ∙ lines_same scenario.threads 1 0 scenario.parts t.journals left.end.left h.fit
             (as_many_left (opening_taking scenario.threads t.journals) left.end left.order left.leads)
             (shorter_left (opening_taking scenario.threads t.journals) left.end left.order left.leads));

@@ -1,28 +1,35 @@
--- What a text that was written into a comparison has to do with the text there.
+-- How a text that was written into a comparison is related to the text there.
 use Rattle.std.proofs.Common.{◌≡◌, ℕ, ◌+◌, ◌≤◌, ◌==◌, nat_eq, bytes_eq, eq-eqb, true≢false, Bool, true, false, not, Some, None, Result, Ok, Err, List, [], ◌∷◌, ◌++◌, length, take, drop, refl, sym, ap, ◌∙◌, subst, append_assoc, append-nil, arith}
 use Rattle.std.proofs.lemmas.List.{drop_at, length-take-le, take-append-drop, take_all, take_at}
 use Rattle.std.proofs.lemmas.Bool.{eqb-true}
 use Rattle.std.proofs.lemmas.Slice.Eq.{bytes_eq-Decides}
+use Rattle.nook_io.specs.Causes.{Rose}
+use Rattle.nook_io.specs.Changes.{Change, between}
 use Rattle.report_text.specs.Writing.{Wrote}
 use Rattle.report_text.specs.declared.write.WriteStop.{WriteStop}
 use Rattle.report_text.specs.declared.write.WriteStop.TheVariants as stops
-use Rattle.journal_audit.specs.Comparisons.{Comparison, held_in, is_other, list_of, untouched, written_in}
-use Rattle.journal_audit.specs.Placed.{Departs, Follows, Place, begins_with, feeds, past}
+use Rattle.journal_audit.specs.Comparisons.{Comparison, change_in, is_other, list_of, untouched, written_in}
+use Rattle.journal_audit.specs.Position.{Departs, Follows, Position, begins_with, feeds, past}
 
--- a text was written into a comparison that had taken nothing, and memory was not wanting
+-- what was written, as the change of a sink that was empty
+abbrev pub taken_change : Comparison → Change
+taken_change c =
+    between (record { contents = Some []; errors = 0 }) (record { contents = Some (written_in c); errors = c.faults })
+
+-- a text was written into a comparison that had taken nothing, without running out of memory
 pub record Written (c : Comparison) (written : Result (Unit {0}) WriteStop) (text : List ℕ) : Type 0 where
   pub enough : written ≡ Err stops.NoMemory → ⊥
   pub faults : c.wrong ≡ None → c.faults ≡ 0
-  pub wrote : Wrote (Some []) (Some (written_in c)) 0 c.faults written text
+  pub wrote : Wrote (taken_change c) written text
 
--- all was taken: it is the front of the text there
+-- all was taken: it is a prefix of the text there
 pub taken_whole : (c : Comparison) (written : Result (Unit {0}) WriteStop) (text : List ℕ) → Written c written text → c.wrong ≡ None
     → text ≡ take c.at c.text
 taken_whole c (Ok done) text w e = sym w.wrote.ok ∙ (ap (λ wrong. take c.at c.text ++ list_of wrong) e ∙ append-nil (take c.at c.text))
-taken_whole c (Err stops.Fault) text w e = absurd (let none : c.faults ≡ 0 = w.faults e in let rose = w.wrote.fault refl in omega arith)
+taken_whole c (Err stops.Fault) text w e = absurd (let none : c.faults ≡ 0 = w.faults e in let rose : Rose 0 c.faults = w.wrote.fault refl in omega arith)
 taken_whole c (Err stops.NoMemory) text w e = absurd (w.enough refl)
 
--- the text behind a byte that stands in the place of another
+-- a text that differs at a byte
 pub record Differs (c : Comparison) (byte : ℕ) (text : List ℕ) : Type 0 where
   pub more : List ℕ
   pub is : text ≡ take c.at c.text ++ byte ∷ more
@@ -43,7 +50,7 @@ pub not_true : (b : Bool) → not b ≡ true → b ≡ false
 not_true true h = absurd (cc)
 not_true false h = refl
 
--- ---- a sink that tells what it holds
+-- ---- a sink that reports what it holds
 
 kept_text : (t text front written : List ℕ) → length text ∷ (text ++ written) ≡ length t ∷ ((t ++ []) ++ front) → text ≡ t
 kept_text t text front written e =
@@ -59,9 +66,9 @@ kept_written t text front written e =
     sym (drop_at text written (length text) refl)
     ∙ (ap (drop (length text)) (same ∙ ap (λ l. l ++ front) (append-nil t)) ∙ drop_at t front (length text) (sym long))
 
--- a write into a comparison with a text, told by what is held alone
+-- a write into a comparison with a text, described only by what the sink holds
 pub record Held (c : Comparison) (t : List ℕ) (written : Result (Unit {0}) WriteStop) (text : List ℕ) : Type 0 where
-  pub is : Wrote (Some (held_in (untouched t))) (Some (held_in c)) 0 c.faults written text
+  pub is : Wrote (change_in (untouched t) c) written text
 
 -- the text is the same
 pub text_kept : (c : Comparison) (t : List ℕ) (written : Result (Unit {0}) WriteStop) (text : List ℕ) → Held c t written text → c.text ≡ t
@@ -70,14 +77,14 @@ text_kept c t (Err stop) text h = kept_text t c.text h.is.err.front (written_in 
 
 -- and what was written is known
 pub written_kept : (c : Comparison) (t : List ℕ) (written : Result (Unit {0}) WriteStop) (text : List ℕ) → Held c t written text
-    → Wrote (Some []) (Some (written_in c)) 0 c.faults written text
+    → Wrote (taken_change c) written text
 written_kept c t (Ok done) text h = record {
   ok = kept_written t c.text text (written_in c) h.is.ok;
   err = tt;
   later = h.is.later;
   fault = h.is.fault;
   kept = h.is.kept;
-  wanting = h.is.wanting;
+  no_memory = h.is.no_memory;
 }
 written_kept c t (Err stop) text h = record {
   ok = tt;
@@ -90,7 +97,7 @@ written_kept c t (Err stop) text h = record {
   later = h.is.later;
   fault = h.is.fault;
   kept = h.is.kept;
-  wanting = h.is.wanting;
+  no_memory = h.is.no_memory;
 }
 
 -- ---- a whole text
@@ -137,9 +144,9 @@ taken_wrong c line written text byte at w e other = not_equal line text unlike
         let differs : not (byte == byte) ≡ true = sym (ap (is_other (Some byte)) (left d q)) ∙ other_byte in
         true≢false (sym (eq-eqb byte byte refl) ∙ not_true (byte == byte) differs)
 
--- ---- from a place on
+-- ---- from a position on
 
-pub follows_taken : (p : Place) (c : Comparison) (written : Result (Unit {0}) WriteStop) (text : List ℕ) → c.text ≡ p.rest
+pub follows_taken : (p : Position) (c : Comparison) (written : Result (Unit {0}) WriteStop) (text : List ℕ) → c.text ≡ p.rest
     → Written c written text → c.wrong ≡ None → Follows text p (past c.at p)
 follows_taken p c written text at w e =
     let same : text ≡ take c.at p.rest = taken_whole c written text w e ∙ ap (take c.at) at in
@@ -148,7 +155,7 @@ follows_taken p c written text at w e =
       number = ap (λ front. p.number + feeds front) (sym same);
     }
 
-pub departs_taken : (p : Place) (c : Comparison) (written : Result (Unit {0}) WriteStop) (text : List ℕ) (byte : ℕ) → c.text ≡ p.rest
+pub departs_taken : (p : Position) (c : Comparison) (written : Result (Unit {0}) WriteStop) (text : List ℕ) (byte : ℕ) → c.text ≡ p.rest
     → Written c written text → c.wrong ≡ Some byte → is_other c.wrong (drop c.at c.text) ≡ true → Departs text p (past c.at p).number
 departs_taken p c written text byte at w e other =
     let d : Differs c byte text = taken_other c written text byte w e in

@@ -3,12 +3,12 @@ use Rattle.std.proofs.Common.{◌≡◌, ℕ, zero, suc, ◌+◌, ◌-◌, ◌/�
 use Rattle.std.proofs.lemmas.Bool.Decides.{nat_tests}
 use Rattle.std.proofs.lemmas.Fmt.{decimal_digit, decimal_step}
 use Rattle.std.specs.List.{position, prefix_len}
-use Rattle.part_laws.proofs.Places.{some_same, split}
+use Rattle.part_laws.proofs.Indices.{some_same, split}
 use Rattle.run_laws.specs.Audit.{context_among, with_byte, word_at, words_of}
 
 -- ---- words
 
--- how many bytes stand in front of the first blank
+-- how many bytes are before the first blank
 abbrev in_front : List ℕ → ℕ
 in_front line = prefix_len (λ x. not (x == 32)) line
 
@@ -42,24 +42,24 @@ never_cut line h = split (nat_lt (in_front line) (length line))
     (λ e. let some : Some (in_front line) ≡ None = rw e at h in absurd cc)
     (λ e. uncut_word line e)
 
--- the word in front of the first blank
-pub word_first : (place : ℕ) (line : List ℕ) (at : ℕ) → place ≡ 0 → blank_in line ≡ Some at → take at line ≡ word_at place line
-word_first place line at z h = rw (z, first_cut line at h) refl
+-- the word before the first blank
+pub word_first : (index : ℕ) (line : List ℕ) (at : ℕ) → index ≡ 0 → blank_in line ≡ Some at → take at line ≡ word_at index line
+word_first index line at z h = rw (z, first_cut line at h) refl
 
--- a word behind the first blank
-pub word_later : (place : ℕ) (line rest word : List ℕ) (at : ℕ) → 0 < place → blank_in line ≡ Some at → rest ≡ drop (at + 1) line
-    → word ≡ word_at (place - 1) rest → word ≡ word_at place line
+-- a word after the first blank
+pub word_later : (index : ℕ) (line rest word : List ℕ) (at : ℕ) → 0 < index → blank_in line ≡ Some at → rest ≡ drop (at + 1) line
+    → word ≡ word_at (index - 1) rest → word ≡ word_at index line
 word_later zero line rest word at z h r w = absurd (omega arith)
 word_later (suc k) line rest word at z h r w =
     let less : suc k - 1 ≡ k = omega arith in
     w ∙ rw (less, first_cut line at h, r) refl
 
 -- the only word
-pub word_only : (place : ℕ) (line : List ℕ) → place ≡ 0 → blank_in line ≡ None → line ≡ word_at place line
-word_only place line z h = rw (z, never_cut line h) refl
+pub word_only : (index : ℕ) (line : List ℕ) → index ≡ 0 → blank_in line ≡ None → line ≡ word_at index line
+word_only index line z h = rw (z, never_cut line h) refl
 
--- behind the last word there is none
-pub word_none : (place : ℕ) (line : List ℕ) → 0 < place → blank_in line ≡ None → [] ≡ word_at place line
+-- after the last word there is none
+pub word_none : (index : ℕ) (line : List ℕ) → 0 < index → blank_in line ≡ None → [] ≡ word_at index line
 word_none zero line z h = absurd (omega arith)
 word_none (suc k) line z h = rw (never_cut line h) refl
 
@@ -88,6 +88,6 @@ this_one letter word k h same =
     let less : 17 - k ≡ suc (16 - k) = omega arith in
     rw (less, same) refl
 
--- none of the contexts is left
+-- no context is left
 pub none_left : (letter word : List ℕ) (k : ℕ) → 17 ≤ k → context_among (17 - k) letter word k ≡ None
 none_left letter word k h = let none : 17 - k ≡ 0 = omega arith in rw none refl

@@ -1,4 +1,4 @@
-pub mod Placed
+pub mod Position
 pub mod Comparisons
 pub mod Stopping
 pub mod Sections

@@ -1,4 +1,4 @@
--- What an audit has of the sections that are over.
+-- What an audit keeps of the finished sections.
 use Rattle.std.specs.Prelude.{◌≡◌, ℕ, Bool, List, length, map}
 use Rattle.run_laws.specs.Audit.{Done, Section, journal_in, own_listeners, published_in}
 use Rattle.promise_defs.specs.Contract.{first_break}
@@ -8,8 +8,8 @@ use Rattle.nook_io.specs.Listening.{Listening}
 use Rattle.nook_data.specs.declared.calls.Answer.{Answer}
 use Rattle.nook_data.specs.declared.scenario.PartSpec.{PartSpec}
 use Rattle.nook_data.specs.declared.steps.Event.{Event}
-use Rattle.report_text.specs.declared.whole_report.PartReport.{PartReport}
-use Rattle.request_taps.specs.Bus.{settled, told_all}
+use Rattle.run_results.specs.declared.report.PartReport.{PartReport}
+use Rattle.request_taps.specs.Bus.{settled, after_hearing_all}
 use Rattle.request_taps.specs.declared.tap.Tap.{Tap}
 
 -- the answers of each section to each thread, each section's journal, the number of the line after its events, what the
@@ -30,7 +30,7 @@ pub record SumsUp (parts : List PartSpec) (sections : List Done) (t : Past) : Ty
   pub many : length sections ≡ length parts
   pub answers : t.answers ≡ map answers_in sections
   pub journals : t.journals ≡ map journal_in sections
-  pub taps : t.taps ≡ told_all (published_in 0 sections) (map settled own_listeners)
+  pub taps : t.taps ≡ after_hearing_all (published_in 0 sections) (map settled own_listeners)
   pub broken : t.broken ≡ has_break parts (map journal_in sections)
   pub given_up : t.given_up ≡ has_given_up parts (map journal_in sections)
 

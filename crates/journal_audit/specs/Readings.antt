@@ -7,13 +7,13 @@ use Rattle.report_defs.specs.ReportLines.{event_lines}
 use Rattle.run_laws.specs.Audit.{Done, Section}
 use Rattle.run_laws.specs.Fitting.{FitsFrom, section_from}
 use Rattle.journal_audit.specs.Found.{found_from, inside}
-use Rattle.journal_audit.specs.Placed.{Follows, Place}
+use Rattle.journal_audit.specs.Position.{Follows, Position}
 
--- the lines of some events were read between two places: they lead from one section to another, and fit
-pub record Reads (s t : Section) (p q : Place) : Type 0 where
+-- the lines of some events were read between two positions: they lead from one section to another, and fit
+pub record Reads (s t : Section) (p q : Position) : Type 0 where
   pub same : (scenario : Scenario) (sections : List Done) (coming : List PartSpec)
       → found_from scenario (inside sections s coming) p ≡ found_from scenario (inside sections t coming) q
-  pub place : t.place ≡ s.place
+  pub index : t.index ≡ s.index
   pub spec : t.spec ≡ s.spec
   pub events : List Event
   pub leads : section_from s events ≡ t

@@ -1,4 +1,4 @@
--- A thread on one part, as the audit keeps it, and what a line of an event does to a section.
+-- A thread on one part, as the audit keeps it, and the effect of an event's line on a section.
 use Rattle.std.specs.Prelude.{◌≡◌, ℕ, ◌-◌, ◌==◌, Bool, true, false, List, [], ◌∷◌, Option, Some, None, All, length}
 use Rattle.std.specs.Prelude.{slice_get}
 use Rattle.run_laws.specs.Audit.{Section}
@@ -8,7 +8,7 @@ use Rattle.nook_data.specs.declared.steps.Event.{Event}
 use Rattle.nook_data.specs.declared.calls.Op.{Op}
 use Rattle.nook_data.specs.declared.steps.Step.{Step}
 
--- a thread, and the part that it asks
+-- a thread, and the part of its operations
 pub record OnPart : Type 0 where
   pub part : ℕ
   pub state : ThreadState
@@ -19,16 +19,16 @@ with_state t state = record { part = t.part; state = state }
 abbrev pub state_in : OnPart → ThreadState
 state_in t = t.state
 
--- each thread asks this part
+-- each thread's part is this one
 abbrev pub AreOn : ℕ → List OnPart → Type 0
 AreOn part threads = All (λ t. t.part ≡ part) threads
 
--- the open call of a part that a number stands for
+-- the open call of a part, from its number, if there is one
 abbrev pub waiting_on : ℕ → Option ℕ → Option Waiting
 waiting_on part None = None
 waiting_on part (Some call) = Some (record { part = part; call = call })
 
--- the first of some operations is on the part, where there is one
+-- the first of some operations, if there is one, is on the part
 abbrev pub is_at : ℕ → List (ℕ × Op) → Bool
 is_at part [] = true
 is_at part (o ∷ ops) = o.0 == part

@@ -5,7 +5,7 @@ ghost use Rattle.std.specs.Prelude.{length};
 ghost use Rattle.order_defs.specs.OutOfOrder.{Finds};
 ghost use Rattle.run_laws.specs.Audit.{Done, is_numbered, opening_audit, opening_section};
 ghost use Rattle.journal_audit.specs.Found.{ArePast, FitsByItself, at_last, between, found_from, inside};
-ghost use Rattle.journal_audit.specs.Placed.{IsEnding, PassesLine, Place};
+ghost use Rattle.journal_audit.specs.Position.{IsEnding, PassesLine, Position};
 ghost use Rattle.journal_audit.specs.Readings.{Reads};
 ghost use Rattle.journal_audit.specs.Stopping.{Checks, Leads};
 ghost use Rattle.journal_audit.specs.PastSections.{SumsUp};
@@ -27,11 +27,11 @@ use report_text::{WriteStop, write_part_line};
 use std::alloc::Global;
 
 /// Checks a printed report line by line, along the steps that its lines name, with no trust in the run that printed it.
-/// None if every line fits and none is missing; else the number of the first line that does not fit, from 1, or one
-/// more than there are lines if lines are missing. A line fits if it is that of a step which its part may take, or one
-/// of those after the events; a rest without a line feed does not. If each line fits by itself, and the parts' journals
-/// are not one run, it is the line of the first event that no order of steps reaches. The journals stay in memory, and
-/// no text.
+/// Returns none if every line fits and none is missing; else the number of the first line that does not fit, from 1, or
+/// one more than the number of lines if lines are missing. A line fits if it is that of a step which its part may take,
+/// or one of those after the events; a last line without a line feed does not fit. If each line fits by itself, but the
+/// parts' journals are not one run, it is the line of the first event that no order of steps reaches. The journals stay
+/// in memory, the text does not.
 pub fn audit(alloc: Global, scenario: &Scenario, report: &[u8]) -> Result<Option<u64>, NoMemory>
     requires { IsValidScenario scenario.now }
     ensures exact { IfOk result (Finds scenario.now report.now) }
@@ -77,8 +77,8 @@ fn check_parts(
         (ArePast scenario.now cursor.old scenario.now.parts [] cursor.new past.new) }
 {
     let specs = scenario.parts.as_slice();
-    for place in 0..specs.len() {
-        check_part(alloc, scenario, place as u32, &specs[place], cursor, past)?;
+    for index in 0..specs.len() {
+        check_part(alloc, scenario, index as u32, &specs[index], cursor, past)?;
     }
     Ok(())
 }
@@ -87,21 +87,21 @@ fn check_parts(
 fn check_part(
     alloc: Global,
     scenario: &Scenario,
-    place: u32,
+    index: u32,
     spec: &PartSpec,
     cursor: &mut Cursor,
     past: &mut PastSections,
 ) -> Result<(), Stop>
-    requires place { place < 256 }
+    requires index { index < 256 }
     requires scenario { IsValidScenario scenario.now }
     requires spec { IsValidPart spec.now }
-    ensures { (first : Place) (specs coming : List Spec) → length specs ≡ place
+    ensures { (first : Position) (specs coming : List Spec) → length specs ≡ index
         → ArePast scenario.now first specs (spec.now ∷ coming) cursor.old past.old
         → Leads result (found_from scenario.now (opening_audit scenario.now) first)
         (ArePast scenario.now first (specs ++ spec.now ∷ []) coming cursor.new past.new) }
 {
-    check_part_line(alloc, place, spec, cursor)?;
-    let mut section = Section::new(alloc, scenario.threads.as_slice(), place, spec)?;
+    check_part_line(alloc, index, spec, cursor)?;
+    let mut section = Section::new(alloc, scenario.threads.as_slice(), index, spec)?;
     check_events(alloc, cursor, &mut section)?;
     check_ending(alloc, cursor, section, past)
 }
@@ -109,17 +109,19 @@ fn check_part(
 /// Checks the first line of a section.
 fn check_part_line(
     alloc: Global,
-    place: u32,
+    index: u32,
     spec: &PartSpec,
     cursor: &mut Cursor,
 ) -> Result<(), Stop>
-    ensures checks { (scenario : Given) (sections : List Done) (coming : List Spec) → length sections ≡ place
+    ensures checks { (scenario : Given) (sections : List Done) (coming : List Spec)
+        → length sections ≡ index
         → Checks result (found_from scenario (between sections (spec.now ∷ coming)) cursor.old)
-        (found_from scenario (inside sections (opening_section scenario.threads place spec.now) coming) cursor.new) }
-    ensures text { OnOk result (PassesLine (part_line place spec.now) cursor.old cursor.new) }
+        (found_from scenario
+        (inside sections (opening_section scenario.threads index spec.now) coming) cursor.new) }
+    ensures text { OnOk result (PassesLine (part_line index spec.now) cursor.old cursor.new) }
 {
     let line = cursor.line()?;
-    if !is_part_line(alloc, place, spec, line)? {
+    if !is_part_line(alloc, index, spec, line)? {
         return Err(Stop::Unfit {
             line: cursor.number(),
         });
@@ -129,11 +131,11 @@ fn check_part_line(
 }
 
 /// Whether a line is the first of a part's section.
-fn is_part_line(alloc: Global, place: u32, spec: &PartSpec, line: &[u8]) -> Result<bool, NoMemory>
-    ensures { IfOk result (λ same. same ≡ bytes_eq line.now (part_line place spec.now)) }
+fn is_part_line(alloc: Global, index: u32, spec: &PartSpec, line: &[u8]) -> Result<bool, NoMemory>
+    ensures { IfOk result (λ same. same ≡ bytes_eq line.now (part_line index spec.now)) }
 {
     let mut compared = Comparing::new(line);
-    let written = write_part_line(alloc, &mut compared, u64::from(place), spec);
+    let written = write_part_line(alloc, &mut compared, u64::from(index), spec);
     if written == Err(WriteStop::NoMemory) {
         return Err(NoMemory);
     }
@@ -152,12 +154,13 @@ fn check_events(alloc: Global, cursor: &mut Cursor, section: &mut Section) -> Re
     Ok(())
 }
 
-/// Checks the next line where it begins with a digit, and tells whether it does.
+/// Checks the next line if it begins with a digit, and returns whether it does.
 fn check_event(alloc: Global, cursor: &mut Cursor, section: &mut Section) -> Result<bool, Stop>
     ensures checks { (scenario : Given) (sections : List Done) (coming : List Spec)
         → Checks result (found_from scenario (inside sections section.old coming) cursor.old)
         (found_from scenario (inside sections section.new coming) cursor.new) }
-    ensures more { IfOk result (λ more. more ≡ true → length cursor.new.rest < length cursor.old.rest) }
+    ensures more { IfOk result
+        (λ more. more ≡ true → length cursor.new.rest < length cursor.old.rest) }
     ensures ending { IfOk result (λ more. more ≡ false → IsEnding cursor.new) }
     ensures reads { OnOk result (Reads section.old section.new cursor.old cursor.new) }
 {
@@ -184,7 +187,7 @@ fn is_numbered(line: &[u8]) -> bool
     }
 }
 
-/// Checks that nothing stands after the last line.
+/// Checks that nothing follows the last line.
 fn check_end(cursor: &Cursor) -> Result<(), Stop>
     ensures checks { (scenario : Given) (sections : List Done)
         → Checks result (found_from scenario (at_last sections []) cursor.now) None }

@@ -5,13 +5,13 @@ ghost use Rattle.std.specs.Io.{WritesAtMost};
 ghost use Rattle.std.specs.Io.KnownBytes.{WriteAppends};
 ghost use Rattle.nook_io.specs.Causes.{HasWriteCause};
 ghost use Rattle.journal_audit.specs.Comparisons.{held_in, is_other, untouched};
-ghost use Rattle.journal_audit.specs.Placed.{begins_with};
+ghost use Rattle.journal_audit.specs.Position.{begins_with};
 
 use nook_io::outside::{Failed, Sink};
 use std::marker::Model;
 
-/// A sink that compares what is written with a text. It takes the bytes that are the text's, and the first one that is
-/// not; then it fails.
+/// A sink that compares what is written with a text. It takes the bytes that match the text, and the first one that
+/// does not; then it fails.
 #[derive(Drop)]
 pub struct Comparing<'a> {
     text: &'a [u8],
@@ -45,7 +45,7 @@ impl<'a> Comparing<'a> {
         }
     }
 
-    /// How many bytes of the text's front were written.
+    /// How many of the text's first bytes were written.
     pub fn matched(&self) -> usize
         ensures result { result ≡ self.now.at }
         ensures within { result ≤ length self.now.text }
@@ -53,7 +53,7 @@ impl<'a> Comparing<'a> {
         self.at
     }
 
-    /// The byte that was written in the place of another or behind the end.
+    /// The first byte that was written and does not match the text, or is past its end.
     pub fn wrong(&self) -> Option<u8>
         ensures result { result ≡ self.now.wrong }
         ensures other { is_other self.now.wrong (drop self.now.at self.now.text) ≡ true }
@@ -68,11 +68,12 @@ impl<'a> Sink for Comparing<'a> {
 
     ghost count = { λ s. s.faults };
 
-    /// Takes the bytes up to the first that is not the text's, and that one. It fails behind such a byte.
+    /// Takes the bytes up to the first that does not match the text, and that one. After such a byte it fails.
     fn write(&mut self, piece: &[u8]) -> Result<usize, Failed>
         requires { 0 < length piece.now }
         ensures bound { WritesAtMost result piece.now }
-        ensures bytes { WriteAppends (Some (held_in self.old)) (Some (held_in self.new)) result piece.now }
+        ensures bytes { WriteAppends (Some (held_in self.old))
+            (Some (held_in self.new)) result piece.now }
         ensures cause { HasWriteCause self.old.faults self.new.faults result }
         ensures text { self.new.text ≡ self.old.text }
     {
@@ -95,7 +96,7 @@ impl<'a> Sink for Comparing<'a> {
     }
 }
 
-/// How many bytes two texts begin with together.
+/// The length of the longest common prefix of two texts.
 #[tactic(auto, using(crate::proofs::Compared::begins_other, crate::proofs::Compared::begins_none))]
 fn common_front(piece: &[u8], text: &[u8]) -> usize
     ensures within { result ≤ length piece.now }

@@ -1,10 +1,10 @@
-//! Where an audit stands in a report.
+//! The position of an audit in a report.
 
 ghost use Rattle.std.specs.Prelude.{◌≡◌, ◌+◌, ◌==◌, ◌<◌, ◌≤◌, IfOk, MatchOption, OnOk, ℕ, List, None, Some, count_by};
 ghost use Rattle.std.specs.Prelude.{length};
 ghost use Rattle.std.specs.List.{position};
-ghost use Rattle.journal_audit.specs.Comparisons.{held_in, untouched};
-ghost use Rattle.journal_audit.specs.Placed.{past, Departs, Follows, HasNoLine, IsNextLine};
+ghost use Rattle.journal_audit.specs.Comparisons.{change_in, untouched};
+ghost use Rattle.journal_audit.specs.Position.{past, Departs, Follows, HasNoLine, IsNextLine};
 ghost use Rattle.journal_audit.specs.Stopping.{OnUnfit};
 ghost use Rattle.report_text.specs.Writing.{Wrote};
 
@@ -13,7 +13,7 @@ use crate::stop::Stop;
 use report_text::WriteStop;
 use std::marker::Model;
 
-/// Where an audit stands in a report: at a byte, in the line with this number.
+/// The position of an audit in a report: a byte, and the number of its line.
 #[derive(Drop)]
 pub struct Cursor<'a> {
     rest: &'a [u8],
@@ -22,9 +22,9 @@ pub struct Cursor<'a> {
 
 impl<'a> Model for Cursor<'a> {
     ghost use Rattle.std.specs.Prelude.{◌+◌, ◌<◌, ◌^◌, length};
-    ghost use Rattle.journal_audit.specs.Placed.{Place};
+    ghost use Rattle.journal_audit.specs.Position.{Position};
 
-    ghost Value = { Place };
+    ghost Value = { Position };
 
     ghost view = { λ s. record { rest = s.rest.now; number = s.number } };
 
@@ -32,7 +32,7 @@ impl<'a> Model for Cursor<'a> {
 }
 
 impl<'a> Cursor<'a> {
-    /// The first byte of a report.
+    /// Starts at the first byte of a report.
     pub fn new(report: &'a [u8]) -> Cursor<'a>
         ensures { result ≡ record { rest = report.now; number = 1 } }
     {
@@ -56,7 +56,7 @@ impl<'a> Cursor<'a> {
         self.rest
     }
 
-    /// The next line with its line feed. It stops where no line feed is left.
+    /// The next line with its line feed. It stops if no line feed is left.
     pub fn line(&self) -> Result<&'a [u8], Stop>
         ensures ok { IfOk result (λ line. IsNextLine self.now line.now) }
         ensures unfit { OnUnfit result (HasNoLine self.now) }
@@ -67,7 +67,7 @@ impl<'a> Cursor<'a> {
         }
     }
 
-    /// Goes past so many bytes.
+    /// Skips this many bytes.
     pub fn skip(&mut self, count: usize)
         requires { count ≤ length self.old.rest }
         ensures { self.new ≡ past count self.old }
@@ -77,7 +77,7 @@ impl<'a> Cursor<'a> {
         self.rest = rest;
     }
 
-    /// Goes past what was compared with the text from here on. It stops where that is not the whole of what was to be
+    /// Skips what was compared with the text from here on. It stops if that is not the whole of what was to be
     /// written.
     pub fn settle(
         &mut self,
@@ -86,12 +86,10 @@ impl<'a> Cursor<'a> {
     ) -> Result<(), Stop>
         requires { compared.now.text ≡ self.old.rest }
         ensures ok { OnOk result ((text : List ℕ)
-            → Wrote (Some (held_in (untouched self.old.rest)))
-            (Some (held_in compared.now)) 0 compared.now.faults written text
+            → Wrote (change_in (untouched self.old.rest) compared.now) written text
             → Follows text self.old self.new) }
         ensures unfit { OnUnfit result (λ line. (text : List ℕ)
-            → Wrote (Some (held_in (untouched self.old.rest)))
-            (Some (held_in compared.now)) 0 compared.now.faults written text
+            → Wrote (change_in (untouched self.old.rest) compared.now) written text
             → Departs text self.old line) }
     {
         if written == Err(WriteStop::NoMemory) {
@@ -105,7 +103,7 @@ impl<'a> Cursor<'a> {
     }
 }
 
-/// The place of the first line feed.
+/// The index of the first line feed.
 fn line_feed_in(text: &[u8]) -> Option<usize>
     ensures { result ≡ position (λ b. b == 10) text.now }
 {

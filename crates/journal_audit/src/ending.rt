@@ -1,9 +1,9 @@
-//! The lines behind a section's events.
+//! The lines after a section's events.
 
 ghost use Rattle.std.specs.Prelude.{◌≡◌, ◌<◌, ◌++◌, ◌∷◌, [], List, true, IfOk, OnOk, length};
 ghost use Rattle.run_laws.specs.Audit.{Done, done_of, is_complete, section_end};
 ghost use Rattle.journal_audit.specs.Found.{between, found_from, inside};
-ghost use Rattle.journal_audit.specs.Placed.{Departs, Follows, IsEnding};
+ghost use Rattle.journal_audit.specs.Position.{Departs, Follows, IsEnding};
 ghost use Rattle.journal_audit.specs.Stopping.{Checks, OnUnfit};
 ghost use Rattle.journal_audit.specs.PastSections.{SumsUp, judged_in};
 ghost use Rattle.nook_data.specs.declared.scenario.PartSpec.{PartSpec as Spec};
@@ -16,27 +16,30 @@ use crate::section::Section;
 use crate::stop::Stop;
 use contract_monitor::Monitor;
 use nook_data::memory::NoMemory;
-use report_text::{PartReport, write_final};
+use report_text::write_final;
 use run_ends::end_of;
+use run_results::PartReport;
 use std::alloc::Global;
 
-/// Checks the lines behind a section's events, which is over then.
+/// Checks the lines after a section's events; then the section is over.
 pub fn check_ending(
     alloc: Global,
     cursor: &mut Cursor,
     section: Section,
     past: &mut PastSections,
 ) -> Result<(), Stop>
-    requires { section.place < 256 }
-    ensures checks { (scenario : Scenario) (sections : List Done) (coming : List Spec) → IsEnding cursor.old
+    requires { section.index < 256 }
+    ensures checks { (scenario : Scenario) (sections : List Done) (coming : List Spec)
+        → IsEnding cursor.old
         → Checks result (found_from scenario (inside sections section.entry coming) cursor.old)
         (found_from scenario (between (sections ++ done_of section.entry ∷ []) coming) cursor.new) }
     ensures complete { OnOk result (is_complete section.entry ≡ true) }
     ensures text { OnOk result (Follows (section_end section.entry) cursor.old cursor.new) }
     ensures ends { OnOk result (past.new.ends ≡ past.old.ends ++ cursor.old.number ∷ []) }
-    ensures sums { (specs : List Spec) (sections : List Done) → length specs ≡ section.entry.place
+    ensures sums { (specs : List Spec) (sections : List Done) → length specs ≡ section.entry.index
         → SumsUp specs sections past.old
-        → OnOk result (SumsUp (specs ++ section.entry.spec ∷ []) (sections ++ done_of section.entry ∷ []) past.new) }
+        → OnOk result (SumsUp (specs ++ section.entry.spec ∷ [])
+        (sections ++ done_of section.entry ∷ []) past.new) }
 {
     let end = cursor.number();
     let judged = judge_ending(alloc, cursor, &section)?;
@@ -44,9 +47,10 @@ pub fn check_ending(
     Ok(())
 }
 
-/// Checks the lines behind a section's events against what is summed up of its part.
+/// Checks the lines after a section's events against what is summed up of its part.
 fn judge_ending(alloc: Global, cursor: &mut Cursor, section: &Section) -> Result<PartReport, Stop>
-    ensures checks { (scenario : Scenario) (sections : List Done) (coming : List Spec) → IsEnding cursor.old
+    ensures checks { (scenario : Scenario) (sections : List Done) (coming : List Spec)
+        → IsEnding cursor.old
         → Checks result (found_from scenario (inside sections section.now coming) cursor.old)
         (found_from scenario (between (sections ++ done_of section.now ∷ []) coming) cursor.new) }
     ensures complete { OnOk result (is_complete section.now ≡ true) }
@@ -63,7 +67,7 @@ fn judge_ending(alloc: Global, cursor: &mut Cursor, section: &Section) -> Result
     Ok(judged)
 }
 
-/// Compares the lines behind a section's events.
+/// Compares the lines after a section's events.
 fn compare_ending(
     alloc: Global,
     cursor: &mut Cursor,

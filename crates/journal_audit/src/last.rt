@@ -1,16 +1,17 @@
-//! The lines behind the sections: the threads with their answers, the program's own listeners, the status.
+//! The lines after the sections: the threads with their answers, the program's own listeners, the status.
 
 ghost use Rattle.std.specs.Prelude.{◌≡◌, ◌≤◌, ◌++◌, [], ◌∷◌, ℕ, List, IfOk, MatchOption, OnOk, if◌then◌else◌, length};
 ghost use Rattle.std.specs.Prelude.{map, slice_index_or, slice_set};
 ghost use Rattle.run_laws.specs.Audit.{Done, answers_in_order, in_script_order, last_lines};
 ghost use Rattle.journal_audit.specs.Found.{at_last, between, found_from};
-ghost use Rattle.journal_audit.specs.Placed.{Follows};
+ghost use Rattle.journal_audit.specs.Position.{Follows};
 ghost use Rattle.journal_audit.specs.Stopping.{Checks};
 ghost use Rattle.journal_audit.specs.PastSections.{SumsUp, answers_in};
 ghost use Rattle.report_defs.specs.ReportText.{status_line, taps_text, threads_text};
 ghost use Rattle.nook_data.specs.declared.calls.Answer.{Answer};
 ghost use Rattle.nook_data.specs.declared.scenario.Scenario.{Scenario};
-ghost use Rattle.report_text.specs.Statuses.{status_number};
+ghost use Rattle.nook_io.specs.Changes.{change};
+ghost use Rattle.run_results.specs.Statuses.{status_number};
 ghost use Rattle.report_text.specs.Writing.{Wrote};
 
 use crate::comparing::Comparing;
@@ -24,11 +25,12 @@ use nook_data::memory::NoMemory;
 use nook_data::scenario::ThreadSpec;
 use nook_io::listeners::TapTotals;
 use nook_io::outside::Sink;
-use report_text::{ReportStatus, WriteStop, write_status_line, write_taps, write_threads};
+use report_text::{WriteStop, write_status_line, write_taps, write_threads};
+use run_results::ReportStatus;
 use std::alloc::Global;
 use std::marker::Model;
 
-/// Checks the lines behind the sections, which are the last ones.
+/// Checks the lines after the sections, which are the last ones.
 pub fn check_last(
     alloc: Global,
     cursor: &mut Cursor,
@@ -58,7 +60,7 @@ pub fn check_last(
     cursor.settle(&compared, written)
 }
 
-/// Writes the lines behind the sections.
+/// Writes the lines after the sections.
 fn write_last<K: Sink>(
     alloc: Global,
     sink: &mut K,
@@ -68,8 +70,9 @@ fn write_last<K: Sink>(
     status: ReportStatus,
 ) -> Result<(), WriteStop>
     requires { length threads.now ≤ MOST_THREADS }
-    ensures { Wrote (K.held sink.old) (K.held sink.new) (K.count sink.old) (K.count sink.new) result
-        (threads_text 0 threads.now answers.now ++ (taps_text 0 taps.now ++ status_line (status_number status))) }
+    ensures { Wrote (change K.held K.count sink.old sink.new) result
+        (threads_text 0 threads.now answers.now
+        ++ (taps_text 0 taps.now ++ status_line (status_number status))) }
 {
     write_threads(alloc, sink, 0, threads, answers)?;
     write_taps(alloc, sink, taps.as_slice())?;
@@ -111,7 +114,7 @@ fn in_script_order(
     Ok(made)
 }
 
-/// What the sections answered a thread and was not taken, a list a part.
+/// The answers of the sections to a thread that were not taken, one list for each part.
 #[derive(Drop)]
 struct Given<'a> {
     lists: Vec<&'a [(u32, Answer)]>,
@@ -129,7 +132,8 @@ impl<'a> Model for Given<'a> {
 impl<'a> Given<'a> {
     /// What the sections answered a thread.
     fn new(alloc: Global, thread: usize, sections: &'a [AnswerTable]) -> Result<Given<'a>, NoMemory>
-        ensures { IfOk result (λ given. given ≡ map (λ answers. slice_index_or answers thread []) sections.now) }
+        ensures { IfOk result
+            (λ given. given ≡ map (λ answers. slice_index_or answers thread []) sections.now) }
     {
         let mut lists = Vec::with_capacity(alloc, sections.len())?;
         for section in sections {
@@ -138,10 +142,11 @@ impl<'a> Given<'a> {
         Ok(Given { lists })
     }
 
-    /// Takes the next answer of a part; none where no answer is left.
+    /// Takes the next answer of a part; none if no answer is left.
     fn take(&mut self, part: u32) -> Option<&'a (u32, Answer)>
         ensures { MatchOption result (slice_index_or self.old part [] ≡ [])
-            (λ answer. (more : List (ℕ × Answer)) × (slice_index_or self.old part [] ≡ answer.now ∷ more)
+            (λ answer. (more : List (ℕ × Answer))
+            × (slice_index_or self.old part [] ≡ answer.now ∷ more)
             × (self.new ≡ slice_set self.old part more)) }
     {
         let part = part as usize;

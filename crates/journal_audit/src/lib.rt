@@ -1,8 +1,8 @@
 //! The audit of a printed report: whether each of its lines fits a scenario, with no trust in the run that printed it.
 //!
-//! Each part is run anew along the steps that the lines of its section name, one part at a time. What the lines behind
-//! a section's events have to be is written into a sink that compares and keeps nothing. After the last line the events
-//! of all parts are taken one by one, as long as one may be.
+//! Each part is run again along the steps that the lines of its section name, one part at a time. The expected lines
+//! after a section's events are written into a sink that compares and keeps nothing. After the last line the events of
+//! all parts are taken one by one, as long as one may be taken.
 #![tactic(auto)]
 
 mod auditing;

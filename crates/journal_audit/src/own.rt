@@ -1,4 +1,4 @@
-//! The program's own listeners: those by whose totals a report is audited.
+//! The program's own listeners, whose totals an audit checks.
 
 ghost use Rattle.std.specs.Prelude.{◌≡◌, IfOk, map};
 ghost use Rattle.run_laws.specs.Audit.{own_listeners};
@@ -7,7 +7,7 @@ use nook_io::listeners::CountListener;
 use nook_io::outside::Listener;
 use std::alloc::{AllocError, Global};
 
-/// The total at which a listener of the program's own has heard enough.
+/// The total at which one of the program's own listeners has heard enough.
 const ENOUGH: u64 = 1_000_000;
 
 /// Every part.
@@ -20,10 +20,11 @@ const BURSTS: u8 = 4;
 
 const ANSWERS: u8 = 64;
 
-/// The program's own listeners, of failures, of bursts and of answers. What they hear is what an audit takes a report's
-/// totals to be of.
+/// The program's own listeners, of failures, of bursts and of answers. An audit expects a report's totals to be those
+/// of what they hear.
 pub fn own_listeners(alloc: Global) -> Result<Vec<CountListener>, AllocError>
-    ensures { IfOk result (λ made. map ⟦<CountListener as Listener>⟧.listening made.items ≡ own_listeners) }
+    ensures { IfOk result
+        (λ made. map ⟦<CountListener as Listener>⟧.listening made.items ≡ own_listeners) }
 {
     let listeners = vec![in alloc;
         CountListener::new(ALL_PARTS, FAILURES, ENOUGH),

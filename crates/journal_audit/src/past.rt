@@ -1,4 +1,4 @@
-//! What the audit has of the sections that are over.
+//! What the audit keeps of the finished sections.
 
 ghost use Rattle.std.specs.Prelude.{◌≡◌, ◌<◌, ◌++◌, ◌∷◌, List, [], IfOk, OnOk, if◌then◌else◌, length, map};
 ghost use Rattle.event_order.specs.Lefts.{events_in};
@@ -8,8 +8,8 @@ ghost use Rattle.part_defs.specs.Stages.{is_given_up};
 ghost use Rattle.nook_data.specs.declared.scenario.PartSpec.{PartSpec};
 ghost use Rattle.journal_audit.specs.LinesLeft.{FirstLeftIs};
 ghost use Rattle.journal_audit.specs.PastSections.{SumsUp, judged_in};
-ghost use Rattle.report_text.specs.Statuses.{status_number};
-ghost use Rattle.request_taps.specs.Bus.{result_of, seen, settled, told_all};
+ghost use Rattle.run_results.specs.Statuses.{status_number};
+ghost use Rattle.request_taps.specs.Bus.{result_of, seen, settled, after_hearing_all};
 
 use crate::own::own_listeners;
 use crate::section::Section;
@@ -22,12 +22,12 @@ use nook_data::scenario::ThreadSpec;
 use nook_data::steps::Event;
 use nook_io::listeners::{CountListener, TapTotals};
 use nook_io::outside::Listener;
-use report_text::{PartReport, ReportStatus};
 use request_taps::Bus;
+use run_results::{PartReport, ReportStatus};
 use std::alloc::Global;
 use std::marker::Model;
 
-/// What the audit has of the sections that are over: the answers, the journals, what the program's own listeners heard,
+/// What the audit keeps of the finished sections: the answers, the journals, what the program's own listeners heard,
 /// and whether some part broke its contract or was given up.
 #[derive(Drop)]
 pub struct PastSections {
@@ -59,7 +59,7 @@ impl Model for PastSections {
 }
 
 impl PastSections {
-    /// No section is over.
+    /// Starts with no section.
     pub fn new(alloc: Global) -> Result<PastSections, NoMemory>
         ensures sums { IfOk result (λ past. SumsUp [] [] past) }
         ensures ends { IfOk result (λ past. past.ends ≡ []) }
@@ -82,15 +82,16 @@ impl PastSections {
         judged: &PartReport,
         end: u64,
     ) -> Result<(), NoMemory>
-        requires place { section.place < 256 }
+        requires index { section.index < 256 }
         requires judged { judged.now ≡ judged_in section }
         ensures ends { OnOk result (self.new.ends ≡ self.old.ends ++ end ∷ []) }
-        ensures sums { (specs : List PartSpec) (sections : List Done) → length specs ≡ section.entry.place
+        ensures sums { (specs : List PartSpec) (sections : List Done)
+            → length specs ≡ section.entry.index
             → SumsUp specs sections self.old
             → OnOk result (SumsUp (specs ++ section.entry.spec ∷ [])
             (sections ++ done_of section.entry ∷ []) self.new) }
     {
-        hear_all(&mut self.taps, section.place() as u8, section.events());
+        hear_all(&mut self.taps, section.index() as u8, section.events());
         self.broken |= judged.first_break.is_some();
         self.given_up |= is_given_up(&section);
         let done = section.into_done(alloc)?;
@@ -100,8 +101,8 @@ impl PastSections {
         Ok(())
     }
 
-    /// The number of the line of the first event that is left if the events of all sections are taken as long as one may
-    /// be; none if every event was taken.
+    /// The line number of the first event left if the events of all sections are taken as long as one may be taken;
+    /// none if every event was taken.
     pub fn first_left(&self, alloc: Global, threads: &[ThreadSpec]) -> Result<Option<u64>, NoMemory>
         requires { length self.now.ends ≡ length self.now.journals }
         ensures { IfOk result (FirstLeftIs threads.now self.now) }
@@ -119,7 +120,7 @@ impl PastSections {
         self.answers.as_slice()
     }
 
-    /// The totals of the program's own listeners, and whether each was kept.
+    /// The totals of the program's own listeners, and whether each is still attached.
     pub fn taps(&self, alloc: Global) -> Result<TapTotals, NoMemory>
         ensures { IfOk result (λ taps. taps ≡ map result_of self.now.taps) }
     {
@@ -128,7 +129,8 @@ impl PastSections {
 
     /// The status of a report of the sections.
     pub fn status(&self) -> ReportStatus
-        ensures { status_number result ≡ (if self.now.broken then 7 else if self.now.given_up then 1 else 0) }
+        ensures { status_number result
+            ≡ (if self.now.broken then 7 else if self.now.given_up then 1 else 0) }
     {
         ReportStatus::of(self.broken, self.given_up)
     }
@@ -142,7 +144,7 @@ fn is_given_up(section: &Section) -> bool
     section.spec().limit < section.part().failures()
 }
 
-/// The program's own listeners, none of which has heard anything.
+/// The program's own listeners, before they hear anything.
 fn own_taps(alloc: Global) -> Result<Bus<CountListener>, NoMemory>
     ensures { IfOk result (λ taps. map (seen ⟦<CountListener as Listener>⟧.listening) taps
         ≡ map settled own_listeners) }
@@ -154,7 +156,7 @@ fn own_taps(alloc: Global) -> Result<Bus<CountListener>, NoMemory>
 /// The listeners hear the events of a part.
 fn hear_all<L: Listener>(taps: &mut Bus<L>, part: u8, events: &[Event])
     ensures { map (seen L.listening) taps.new
-        ≡ told_all (each_of_part part events.now) (map (seen L.listening) taps.old) }
+        ≡ after_hearing_all (each_of_part part events.now) (map (seen L.listening) taps.old) }
 {
     for event in events {
         taps.publish(part, event);

@@ -1,4 +1,4 @@
-//! What a thread asks of one part: the operations that it has not invoked, its open call and its answers.
+//! A thread's operations on one part: those that it has not invoked, its open call and its answers.
 
 ghost use Rattle.std.specs.Prelude.{drop, ◌≡◌, ℕ, true, List, ◌∷◌, [], None, IfOk, MatchOption, OnOk, filter};
 ghost use Rattle.std.specs.Prelude.{if◌then◌else◌};
@@ -16,11 +16,11 @@ use nook_data::steps::Event;
 use std::alloc::Global;
 use std::marker::Model;
 
-/// What a thread asks of one part, and was answered by it.
+/// A thread's operations on one part, and their answers.
 #[derive(Drop)]
 pub struct Script<'a> {
     part: u32,
-    /// The rest of the thread's script from an operation on the part on.
+    /// The rest of the thread's script, from an operation on the part on.
     rest: &'a [(u32, Op)],
     /// The number of the open call.
     waiting: Option<u32>,
@@ -47,7 +47,7 @@ impl<'a> Model for Script<'a> {
 }
 
 impl<'a> Script<'a> {
-    /// What a thread asks of a part from the start on.
+    /// A thread's operations on a part, before it has invoked any.
     pub fn new(alloc: Global, part: u32, spec: &'a ThreadSpec) -> Script<'a>
         ensures { result ≡ record { part = part; state = thread_on part spec.now } }
     {
@@ -62,7 +62,8 @@ impl<'a> Script<'a> {
     /// The next operation on the part.
     pub fn next(&self) -> Option<&'a Op>
         ensures { MatchOption result (self.now.state.rest ≡ [])
-            (λ op. (more : List (ℕ × Op)) × (self.now.state.rest ≡ (self.now.part, op.now) ∷ more)) }
+            (λ op. (more : List (ℕ × Op))
+            × (self.now.state.rest ≡ (self.now.part, op.now) ∷ more)) }
     {
         match self.rest.first() {
             Some((_, op)) => Some(op),
@@ -82,15 +83,17 @@ impl<'a> Script<'a> {
     pub fn hear(&mut self, alloc: Global, thread: u8, event: &Event) -> Result<(), NoMemory>
         ensures part { self.new.part ≡ self.old.part }
         ensures state { OnOk result (self.new.state
-            ≡ thread_after self.old.part event.now (started thread self.old.part event.now self.old.state)) }
+            ≡ thread_after self.old.part event.now
+            (started thread self.old.part event.now self.old.state)) }
     {
         self.start(thread, event);
         self.settle(alloc, event)
     }
 
-    /// This thread's invocation takes its next operation.
+    /// If the event is an invocation by this thread, takes the next operation.
     fn start(&mut self, thread: u8, event: &Event)
-        ensures { self.new ≡ with_state self.old (started thread self.old.part event.now self.old.state) }
+        ensures { self.new ≡ with_state self.old
+            (started thread self.old.part event.now self.old.state) }
     {
         if let Event::Invoke {
             call,
@@ -99,12 +102,12 @@ impl<'a> Script<'a> {
         } = event
             && *caller == thread
         {
-            self.rest = behind_first(self.part, self.rest);
+            self.rest = following_first(self.part, self.rest);
             self.waiting = Some(*call);
         }
     }
 
-    /// An answer to the open call is kept.
+    /// If the event answers the open call, keeps the answer.
     fn settle(&mut self, alloc: Global, event: &Event) -> Result<(), NoMemory>
         ensures part { self.new.part ≡ self.old.part }
         ensures state { OnOk result (self.new
@@ -128,21 +131,21 @@ impl<'a> Script<'a> {
     }
 }
 
-/// The operations from the first one on a part on.
+/// The operations from the first one on a part.
 fn from_part<'a>(part: u32, ops: &'a [(u32, Op)]) -> &'a [(u32, Op)]
     ensures same { filter (is_on part) result.now ≡ filter (is_on part) ops.now }
     ensures first { is_at part result.now ≡ true }
 {
-    for place in 0..ops.len() {
-        if ops[place].0 == part {
-            return &ops[place..];
+    for index in 0..ops.len() {
+        if ops[index].0 == part {
+            return &ops[index..];
         }
     }
     &ops[ops.len()..]
 }
 
-/// The operations behind the first one, from the next on the part on.
-fn behind_first<'a>(part: u32, ops: &'a [(u32, Op)]) -> &'a [(u32, Op)]
+/// The operations after the first one, from the next one on the part.
+fn following_first<'a>(part: u32, ops: &'a [(u32, Op)]) -> &'a [(u32, Op)]
     requires { is_at part ops.now ≡ true }
     ensures rest { filter (is_on part) result.now ≡ drop 1 (filter (is_on part) ops.now) }
     ensures first { is_at part result.now ≡ true }

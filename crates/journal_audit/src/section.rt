@@ -1,4 +1,4 @@
-//! The section of one part: the part as the lines so far leave it.
+//! The section of one part: the part after the lines so far.
 
 ghost use Rattle.std.specs.Prelude.{◌≡◌, ◌<◌, ◌≤◌, ℕ, IfOk, OnOk, Some, bytes_eq, codes, length, map};
 ghost use Rattle.run_laws.specs.Audit.{after_event, are_through, arrival_of, context_in, if_burst, if_entered};
@@ -24,18 +24,17 @@ use report_text::event_line;
 use std::alloc::Global;
 use std::marker::Model;
 
-/// What a section leaves that is over: what its part answered each thread, and its journal.
+/// What a finished section leaves: what its part answered each thread, and its journal.
 #[derive(Drop)]
 pub struct SectionDone {
     pub answers: AnswerTable,
     pub journal: Journal,
 }
 
-/// A part as the lines of its section so far leave it, with the frames that have not arrived and what each thread asks
-/// of it.
+/// A part after the lines of its section so far, with the frames that have not arrived and each thread's operations.
 #[derive(Drop)]
 pub struct Section<'a> {
-    place: u32,
+    index: u32,
     spec: &'a PartSpec,
     part: Part,
     coming: &'a [Words],
@@ -51,32 +50,32 @@ impl<'a> Model for Section<'a> {
     ghost Value = { Sectioned };
 
     ghost view = { λ s. record {
-      place = s.place;
+      index = s.index;
       spec = s.spec.now;
       seat = record { run = s.part; coming = s.coming.now };
       threads = map state_in s.threads.items;
     } };
 
-    ghost invariant = { λ s. (s.part.state.spec ≡ s.spec.now) × AreOn s.place s.threads.items
+    ghost invariant = { λ s. (s.part.state.spec ≡ s.spec.now) × AreOn s.index s.threads.items
         × (length s.threads.items ≤ MOST_THREADS) };
 }
 
 impl<'a> Section<'a> {
-    /// The section behind the first line of a valid part, of a scenario with these threads.
+    /// The section after the first line of a valid part, of a scenario with these threads.
     pub fn new(
         alloc: Global,
         threads: &'a [ThreadSpec],
-        place: u32,
+        index: u32,
         spec: &'a PartSpec,
     ) -> Result<Section<'a>, NoMemory>
         requires threads { length threads.now ≤ MOST_THREADS }
         requires valid { IsValidPart spec.now }
-        ensures { IfOk result (λ section. section ≡ opening_section threads.now place spec.now) }
+        ensures { IfOk result (λ section. section ≡ opening_section threads.now index spec.now) }
     {
-        let threads = threads_on(alloc, place, threads)?;
+        let threads = threads_on(alloc, index, threads)?;
         let part = Part::new(alloc, spec.copy(alloc)?)?;
         Ok(Section {
-            place,
+            index,
             spec,
             part,
             coming: spec.arrivals.as_slice(),
@@ -109,7 +108,8 @@ impl<'a> Section<'a> {
 
     /// The invocation of the next operation of the thread that a word names.
     fn invocation(&self, alloc: Global, word: &[u8]) -> Result<Option<Step>, NoMemory>
-        ensures { IfOk result (λ step. step ≡ if_invoked self.now.threads (context_in (codes "t") word.now)) }
+        ensures { IfOk result
+            (λ step. step ≡ if_invoked self.now.threads (context_in (codes "t") word.now)) }
     {
         let Some(thread) = context_in(b't', word) else {
             return Ok(None);
@@ -135,8 +135,8 @@ impl<'a> Section<'a> {
         Ok(Some(Step::Arrive { frame }))
     }
 
-    /// Takes the step that a line of an event names, and tells whether the line fits: the step may be taken, and the
-    /// line is that of its event. Where it does not fit, or memory was wanting, the section is of no use any more.
+    /// Takes the step that a line of an event names, and returns whether the line fits: the step may be taken, and the
+    /// line is that of its event. If it does not fit, or memory runs out, the section is of no further use.
     pub fn after_event(&mut self, alloc: Global, line: &[u8]) -> Result<bool, NoMemory>
         ensures { IfOk result (λ fits. IsAfter fits (after_event self.old line.now) self.new) }
     {
@@ -153,7 +153,7 @@ impl<'a> Section<'a> {
         Ok(true)
     }
 
-    /// Takes a step, and tells whether it might be taken.
+    /// Takes a step, and returns whether it might be taken.
     fn take(&mut self, step: Step) -> Result<bool, NoMemory>
         ensures { IfOk result (λ taken. IsTaken taken self.old step self.new) }
     {
@@ -171,11 +171,12 @@ impl<'a> Section<'a> {
     /// Whether a line is that of the newest event.
     fn is_newest(&self, alloc: Global, line: &[u8]) -> Result<bool, NoMemory>
         requires { 0 < length self.now.seat.run.journal }
-        ensures { IfOk result (λ same. (event : Event) → newest_in self.now.seat.run.journal ≡ Some event
+        ensures { IfOk result
+            (λ same. (event : Event) → newest_in self.now.seat.run.journal ≡ Some event
             → same ≡ bytes_eq line.now (event_line (length self.now.seat.run.journal) event)) }
     {
-        let place = self.events().len() as u64;
-        let printed = event_line(alloc, place, newest(&self.part))?;
+        let index = self.events().len() as u64;
+        let printed = event_line(alloc, index, newest(&self.part))?;
         Ok(printed.as_slice() == line)
     }
 
@@ -183,7 +184,8 @@ impl<'a> Section<'a> {
     fn hear(&mut self, alloc: Global) -> Result<(), NoMemory>
         requires { 0 < length self.old.seat.run.journal }
         ensures { OnOk result ((event : Event) → newest_in self.old.seat.run.journal ≡ Some event
-            → self.new ≡ with_threads self.old (threads_after 0 self.old.place event self.old.threads)) }
+            → self.new ≡ with_threads self.old
+            (threads_after 0 self.old.index event self.old.threads)) }
     {
         hear_all(alloc, &mut self.threads, newest(&self.part))
     }
@@ -220,16 +222,17 @@ impl<'a> Section<'a> {
         &self.part
     }
 
-    /// The part's place in the scenario.
-    pub fn place(&self) -> u32
-        ensures { result ≡ self.now.place }
+    /// The part's index in the scenario.
+    pub fn index(&self) -> u32
+        ensures { result ≡ self.now.index }
     {
-        self.place
+        self.index
     }
 
     /// What the part answered each thread, and its journal.
     pub fn into_done(self, alloc: Global) -> Result<SectionDone, NoMemory>
-        ensures answers { IfOk result (λ done. done.answers ≡ map answers_of_thread self.entry.threads) }
+        ensures answers { IfOk result
+            (λ done. done.answers ≡ map answers_of_thread self.entry.threads) }
         ensures journal { IfOk result (λ done. done.journal.list ≡ self.entry.seat.run.journal) }
     {
         Ok(SectionDone {
@@ -241,7 +244,8 @@ impl<'a> Section<'a> {
 
 /// What a part answered each of these threads.
 fn answers_of_each(alloc: Global, threads: Vec<Script<'_>>) -> Result<AnswerTable, NoMemory>
-    ensures { IfOk result (λ made. made ≡ map answers_of_thread (map state_in threads.entry.items)) }
+    ensures { IfOk result
+        (λ made. made ≡ map answers_of_thread (map state_in threads.entry.items)) }
 {
     let mut made = Items::new(alloc);
     for thread in threads {
@@ -250,13 +254,14 @@ fn answers_of_each(alloc: Global, threads: Vec<Script<'_>>) -> Result<AnswerTabl
     Ok(made)
 }
 
-/// What each thread asks of a part.
+/// Each thread's operations on a part.
 fn threads_on<'a>(
     alloc: Global,
     part: u32,
     specs: &'a [ThreadSpec],
 ) -> Result<Vec<Script<'a>>, NoMemory>
-    ensures states { IfOk result (λ made. map state_in made.items ≡ map (thread_on part) specs.now) }
+    ensures states { IfOk result
+        (λ made. map state_in made.items ≡ map (thread_on part) specs.now) }
     ensures parts { IfOk result (λ made. AreOn part made.items) }
 {
     let mut made = Vec::with_capacity(alloc, specs.len())?;
@@ -300,10 +305,11 @@ fn hear_all(alloc: Global, threads: &mut [Script], event: &Event) -> Result<(), 
     requires few { length threads.old ≤ MOST_THREADS }
     ensures parts { (part : ℕ) → AreOn part threads.old → AreOn part threads.new }
     ensures states { (part : ℕ) → AreOn part threads.old
-        → OnOk result (map state_in threads.new ≡ threads_after 0 part event.now (map state_in threads.old)) }
+        → OnOk result (map state_in threads.new ≡ threads_after 0 part event.now
+        (map state_in threads.old)) }
 {
-    for place in 0..threads.len() {
-        threads[place].hear(alloc, place as u8, event)?;
+    for index in 0..threads.len() {
+        threads[index].hear(alloc, index as u8, event)?;
     }
     Ok(())
 }

@@ -7,7 +7,7 @@ use nook_data::memory::NoMemory;
 pub enum Stop {
     /// This line, counted from 1, does not fit or is missing.
     Unfit { line: u64 },
-    /// Memory was wanting.
+    /// Memory ran out.
     NoMemory,
 }
 
@@ -17,7 +17,7 @@ impl From<NoMemory> for Stop {
 
     ghost from_gives = { λ _ stop. stop ≡ stops.NoMemory };
 
-    fn from(_wanting: NoMemory) -> Stop {
+    fn from(_no_memory: NoMemory) -> Stop {
         Stop::NoMemory
     }
 }

@@ -6,20 +6,20 @@ ghost use Rattle.run_laws.specs.Audit.{context_in, word_at};
 
 use nook_data::limits::CONTEXTS;
 
-/// The word at a place of a line, from 0, between blanks; empty where there is none. The line feed is a part of the
-/// last.
-pub fn word_at(place: u32, line: &[u8]) -> &[u8]
-    ensures { result.now ≡ word_at place line.now }
+/// The word of a line at an index; empty if there is none. Words are separated by blanks, and the line feed is part of
+/// the last one.
+pub fn word_at(index: u32, line: &[u8]) -> &[u8]
+    ensures { result.now ≡ word_at index line.now }
 {
     match blank_in(line) {
-        Some(at) if place == 0 => &line[..at],
-        Some(at) => word_at(place - 1, &line[at + 1..]),
-        None if place == 0 => line,
+        Some(at) if index == 0 => &line[..at],
+        Some(at) => word_at(index - 1, &line[at + 1..]),
+        None if index == 0 => line,
         None => &line[line.len()..],
     }
 }
 
-/// The place of the first blank.
+/// The index of the first blank.
 fn blank_in(line: &[u8]) -> Option<usize>
     ensures { result ≡ position (λ b. b == 32) line.now }
 {

@@ -1,4 +1,4 @@
--- Words that fill their place need no zeros.
+-- Words that fill their space need no zeros.
 use Rattle.std.proofs.Common.{◌≡◌, ℕ, ◌-◌, List, length, arith}
 use Rattle.std.proofs.lemmas.List.{append-nil}
 use Rattle.machine_defs.specs.Pages.{padded_words}

@@ -7,23 +7,23 @@ use Rattle.nook_data.specs.declared.memory_map.TheConstants.{OBJECT_WORDS}
 use Rattle.machine_defs.specs.Entries.{free_start}
 use Rattle.domain_pages.specs.Frames.{with_own}
 use Rattle.machine_defs.specs.Services.{Served}
-use Rattle.kernel_services.specs.declared.services.Served.{Served as Told}
+use Rattle.kernel_services.specs.declared.services.Served.{Served as Given}
 
--- what a service leaves, with what it tells
-abbrev pub outcome : List ℕ → List Entry → List (List ℕ) → Told → Served
-outcome memory entries queue told = record {
+-- what a service leaves, with what it returns
+abbrev pub outcome : List ℕ → List Entry → List (List ℕ) → Given → Served
+outcome memory entries queue served_with = record {
   memory = memory;
   entries = entries;
   queue = queue;
-  answer = told.answer;
-  moved = told.moved;
+  answer = served_with.answer;
+  moved = served_with.moved;
 }
 
--- the queue after a frame is handed up: it takes it while it has room
+-- the queue after a frame is handed up: the frame is queued if there is room
 abbrev pub with_frame : List ℕ → List (List ℕ) → List (List ℕ)
 with_frame frame queue = if nat_lt (length queue) MOST_QUEUED_FRAMES then queue ++ frame ∷ [] else queue
 
--- the driver's pages with a copy of their own, after the copy of an object is put at a start
+-- the driver's pages with their own copy, after the copy of an object is put at a start
 abbrev pub own_copied : Option ℕ → List Bool → List Bool
 own_copied None own = own
 own_copied (Some start) own = with_own start OBJECT_WORDS own

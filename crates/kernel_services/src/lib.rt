@@ -1,6 +1,6 @@
 //! The eight kernel services, and the kernel's queue of received frames.
 //!
-//! A service takes no memory: the rooms for what it moves are handed in.
+//! A service takes no memory: the rooms for what it moves are passed in.
 #![tactic(auto)]
 
 mod queue;

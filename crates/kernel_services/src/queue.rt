@@ -34,7 +34,7 @@ impl Model for RxQueue {
 }
 
 impl RxQueue {
-    /// The empty queue. It takes room for 64 frames' places.
+    /// The empty queue. It allocates room for 64 entries.
     pub fn new(alloc: Global) -> Result<RxQueue, NoMemory>
         ensures { IfOk result (λ made. made ≡ []) }
     {
@@ -50,7 +50,7 @@ impl RxQueue {
         self.frames.len()
     }
 
-    /// A frame goes to the back; where 64 wait, it is dropped, and the answer is false. It takes no memory.
+    /// Adds a frame at the back; if 64 wait, drops it and returns false. It takes no memory.
     pub fn offer(&mut self, frame: Words) -> bool
         ensures taken { result ≡ nat_lt (length self.old) MOST_QUEUED_FRAMES }
         ensures queue { self.new ≡ with_frame frame self.old }
@@ -74,8 +74,8 @@ impl RxFront for RxQueue {
 impl TryCopy for RxQueue {
     fn copy(&self, alloc: Global) -> Result<RxQueue, NoMemory> {
         let mut frames = VecDeque::with_capacity(alloc, MOST_QUEUED_FRAMES)?;
-        for place in 0..self.frames.len() {
-            frames.push_back(self.frames[place].copied(alloc)?)?;
+        for index in 0..self.frames.len() {
+            frames.push_back(self.frames[index].copied(alloc)?)?;
         }
         Ok(RxQueue { frames })
     }

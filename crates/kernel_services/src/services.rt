@@ -17,7 +17,7 @@ use nook_data::memory::Room;
 use nook_data::memory_map::{DATA_WORDS, LAST_OBJECT, MEMORY_WORDS, OBJECT_WORDS, object_start};
 use object_tracker::Tracker;
 
-/// What a service told: its result, and the words that it moved.
+/// What a service returned: its result, and the words that it moved.
 #[derive(Drop)]
 pub struct Served {
     pub answer: Word,
@@ -38,31 +38,33 @@ pub fn serve(
     requires passed { can_serve service ≡ true }
     requires moved { MOST_FRAME_WORDS ≤ moved }
     requires frame { MOST_FRAME_WORDS ≤ frame }
-    ensures served { served tracker.old.heap_start service pages.old.words tracker.old.entries queue.old
+    ensures served { served tracker.old.heap_start service pages.old.words tracker.old.entries
+        queue.old
         ≡ outcome pages.new.words tracker.new.entries queue.new result }
     ensures heap { tracker.new.heap_start ≡ tracker.old.heap_start }
     ensures loans { pages.new.lent ≡ pages.old.lent }
-    ensures own { pages.new.own ≡ own_served tracker.old.heap_start service tracker.old.entries pages.old.own }
+    ensures own { pages.new.own
+        ≡ own_served tracker.old.heap_start service tracker.old.entries pages.old.own }
 {
     match service {
         Service::Alloc { n } => alloc(n, tracker, moved),
         Service::Free { address } => {
             let _was_held = tracker.free(address);
-            told(0, moved)
+            served_with(0, moved)
         }
         Service::Register => {
             let _was_first = tracker.register();
-            told(0, moved)
+            served_with(0, moved)
         }
         Service::Borrow { object } => borrow(object, pages, tracker, moved, frame),
         Service::GiveBack { object } => give_back(object, pages, tracker, moved),
         Service::NetRx { start, len } => hand_up(start, len, pages, queue, moved, frame),
-        Service::Log | Service::Yield => told(0, moved),
+        Service::Log | Service::Yield => served_with(0, moved),
     }
 }
 
 /// A result with no words moved.
-fn told(answer: Word, moved: Room<Word>) -> Served
+fn served_with(answer: Word, moved: Room<Word>) -> Served
     ensures answer { result.answer ≡ answer }
     ensures moved { result.moved ≡ [] }
 {
@@ -72,21 +74,22 @@ fn told(answer: Word, moved: Room<Word>) -> Served
     }
 }
 
-/// The lowest start of `n` free heap words, 0 where there is none.
+/// The lowest start of `n` free heap words, 0 if there is none.
 fn alloc(n: u32, tracker: &mut Tracker, moved: Room<Word>) -> Served
     requires { n ≤ DATA_WORDS }
     ensures served { (memory : List ℕ) (queue : List (List ℕ))
-        → alloc_served n (free_start tracker.old.heap_start n tracker.old.entries) memory tracker.old.entries queue
+        → alloc_served n (free_start tracker.old.heap_start n tracker.old.entries) memory
+        tracker.old.entries queue
         ≡ outcome memory tracker.new.entries queue result }
     ensures heap { tracker.new.heap_start ≡ tracker.old.heap_start }
 {
     match tracker.alloc(n) {
-        Some(start) => told(start, moved),
-        None => told(0, moved),
+        Some(start) => served_with(start, moved),
+        None => served_with(0, moved),
     }
 }
 
-/// The words of an object, copied to where its copy begins; 0 where there is no room for it.
+/// Copies the words of an object to where its copy begins; returns 0 if there is no room for it.
 #[tactic(auto, using(crate::proofs::Padded::padded_full))]
 fn borrow(
     object: u32,
@@ -98,7 +101,8 @@ fn borrow(
     requires object { object ≤ LAST_OBJECT }
     requires room { OBJECT_WORDS ≤ copied }
     ensures served { (queue : List (List ℕ))
-        → borrow_served object (free_start tracker.old.heap_start OBJECT_WORDS tracker.old.entries) pages.old.words
+        → borrow_served object
+        (free_start tracker.old.heap_start OBJECT_WORDS tracker.old.entries) pages.old.words
         tracker.old.entries queue ≡ outcome pages.new.words tracker.new.entries queue result }
     ensures heap { tracker.new.heap_start ≡ tracker.old.heap_start }
     ensures loans { pages.new.lent ≡ pages.old.lent }
@@ -106,27 +110,28 @@ fn borrow(
         (free_start tracker.old.heap_start OBJECT_WORDS tracker.old.entries) pages.old.own }
 {
     let Some(start) = tracker.borrow(object) else {
-        return told(0, moved);
+        return served_with(0, moved);
     };
     let words = pages.words(object_start(object), OBJECT_WORDS, copied);
     pages.put_words(start, words.as_slice(), OBJECT_WORDS);
-    told(start, moved)
+    served_with(start, moved)
 }
 
-/// The words of an object's copy, written to the object; the copy ends.
+/// Writes the words of an object's copy to the object; the copy ends.
 #[tactic(auto, using(crate::proofs::Padded::padded_full, crate::proofs::Own::own_of_object))]
 fn give_back(object: u32, pages: &mut PageMap, tracker: &mut Tracker, moved: Room<Word>) -> Served
     requires object { object ≤ LAST_OBJECT }
     requires room { OBJECT_WORDS ≤ moved }
     ensures served { (queue : List (List ℕ))
-        → give_back_served object (borrow_start object tracker.old.entries) pages.old.words tracker.old.entries queue
+        → give_back_served object
+        (borrow_start object tracker.old.entries) pages.old.words tracker.old.entries queue
         ≡ outcome pages.new.words tracker.new.entries queue result }
     ensures heap { tracker.new.heap_start ≡ tracker.old.heap_start }
     ensures loans { pages.new.lent ≡ pages.old.lent }
     ensures own { pages.new.own ≡ pages.old.own }
 {
     let Some(start) = tracker.give_back(object) else {
-        return told(0, moved);
+        return served_with(0, moved);
     };
     let words = pages.words(start, OBJECT_WORDS, moved);
     pages.put_words(object_start(object), words.as_slice(), OBJECT_WORDS);
@@ -136,7 +141,7 @@ fn give_back(object: u32, pages: &mut PageMap, tracker: &mut Tracker, moved: Roo
     }
 }
 
-/// A frame goes to the back of the queue: 1, or 0 where the queue is full.
+/// Adds a frame at the back of the queue; returns 1, or 0 if the queue is full.
 fn hand_up(
     start: u32,
     len: u32,
@@ -150,7 +155,8 @@ fn hand_up(
     requires moved { MOST_FRAME_WORDS ≤ moved }
     requires frame { MOST_FRAME_WORDS ≤ frame }
     ensures { (entries : List Entry)
-        → frame_served (slice_range pages.now.words start (start + len)) pages.now.words entries queue.old
+        → frame_served (slice_range pages.now.words start
+        (start + len)) pages.now.words entries queue.old
         ≡ outcome pages.now.words entries queue.new result }
 {
     let words = pages.words(start, len, moved);

@@ -1,4 +1,4 @@
--- A device stays of its class, whatever its driver does at its ports in a burst.
+-- A device keeps its class, whatever its driver does at its ports in a burst.
 use Rattle.std.proofs.Common.{◌≡◌, ℕ, ◌+◌, ◌%◌, ◌^◌, ◌==◌, ◌&&◌, Bool, true, false, Option, Some, None, List, if◌then◌else◌, nat_le, nat_lt, not, refl, ◌∙◌}
 use Rattle.nook_data.specs.declared.classes.Class.{Class}
 use Rattle.nook_data.specs.declared.devices.DeviceKind.{DeviceKind}
@@ -15,13 +15,13 @@ use Rattle.machine_defs.proofs.MachineCases.{kind_input, past_decode, past_fetch
 use Rattle.machine_defs.specs.Machine.{decode_of}
 use Rattle.machine_defs.specs.Pages.{may_write, read_word, fetch_word}
 use Rattle.machine_defs.specs.Views.Ports.{class_of, class_of_kind, device_after, device_given, device_of}
-use Rattle.machine_defs.specs.Turn.{Machine, Turn, turn, executed, past_input, past_output, stores, r}
+use Rattle.machine_defs.specs.Execution.{Machine, Executed, turn, executed, past_input, past_output, stores, r}
 use Rattle.machine_defs.proofs.DeviceClasses.{input_keeps_class, output_keeps_class}
 use Rattle.machine_defs.proofs.BurstKeeps.{split, every_fault, burst_keeps}
 
--- a turn
+-- an instruction
 
-abbrev KeepsClass : Machine → Turn → Type 0
+abbrev KeepsClass : Machine → Executed → Type 0
 KeepsClass m t = class_of t.machine.device ≡ class_of m.device
 
 past_read_keeps : (m : Machine) (a address : ℕ) (o : Option ℕ) → KeepsClass m (past_read m a address o)
@@ -58,12 +58,12 @@ past_fetch_keeps : (entries : List Entry) (m : Machine) (o : Option ℕ) → Kee
 past_fetch_keeps entries m None = refl
 past_fetch_keeps entries m (Some word) = past_decode_keeps entries m (decode_of word)
 
--- after a turn the device is of its class
+-- after an instruction the device is still of its class
 pub turn_keeps_class : (entries : List Entry) (m : Machine) → class_of (turn entries m).machine.device ≡ class_of m.device
 unfolding turn
 turn_keeps_class entries m = past_fetch_keeps entries m (fetch_word m.memory m.cpu.counter)
 
--- after a burst the device is of its class
+-- after a burst the device is still of its class
 pub burst_keeps_class : (entries : List Entry) (faults : List Fault) (m : Machine)
     → class_of (burst entries faults m).machine.device ≡ class_of m.device
 burst_keeps_class entries faults m =

@@ -6,10 +6,10 @@ use Rattle.nook_data.specs.declared.scenario.Fault.{Fault}
 use Rattle.nook_data.specs.declared.machine.TrapCause.{TrapCause}
 use Rattle.machine_defs.specs.Burst.{Burst, Struck, struck_machine, strikes_at, acts_of, burst_from, burst, trap_of}
 use Rattle.machine_defs.proofs.MachineCases.{past_trap}
-use Rattle.machine_defs.specs.Turn.{Machine, Turn, turn}
+use Rattle.machine_defs.specs.Execution.{Machine, Executed, turn}
 use Rattle.machine_defs.proofs.BurstTurns.{turn_cases}
 
--- a goal by the two answers of a test, each with its equation
+-- proves a goal by the two results of a test, each with its equation
 pub split {ℓ} : {G : Type ℓ} → (b : Bool) → (b ≡ true → G) → (b ≡ false → G) → G
 split true there not_there = there refl
 split false there not_there = not_there refl
@@ -18,7 +18,7 @@ pub every_fault : (faults : List Fault) → AllByRecursion (λ f. Unit {0}) faul
 every_fault [] = tt
 every_fault (f ∷ faults) = (tt, every_fault faults)
 
--- What each turn and each fault of a burst keeps, the burst keeps: one induction over its turns.
+-- What each instruction and each fault of a burst preserves, the burst preserves: one induction over its instructions.
 module _ (K : Machine → List Act → Type 0) (Q : Fault → Type 0) (entries : List Entry)
     (by_turn : (m : Machine) (acts : List Act) → K m acts → K (turn entries m).machine (acts ++ acts_of (turn entries m).act))
     (by_fault : (f : Fault) (m : Machine) (acts : List Act) → Q f → K m acts → K (struck_machine entries f.kind m) acts) where
@@ -31,15 +31,15 @@ module _ (K : Machine → List Act → Type 0) (Q : Fault → Type 0) (entries :
   past_trap_keeps acts more m rest None k km q = k
   past_trap_keeps acts more m rest (Some cause) k km q = record { machine = km; rest = q }
 
-  strikes_keep : (place : ℕ) (faults : List Fault) (m : Machine) (acts : List Act)
-      → AllByRecursion Q faults → K m acts → IsKept acts (strikes_at place entries faults m)
-  strikes_keep place [] m acts q k = record { machine = k; rest = tt }
-  strikes_keep place (f ∷ faults) m acts q k =
+  strikes_keep : (index : ℕ) (faults : List Fault) (m : Machine) (acts : List Act)
+      → AllByRecursion Q faults → K m acts → IsKept acts (strikes_at index entries faults m)
+  strikes_keep index [] m acts q k = record { machine = k; rest = tt }
+  strikes_keep index (f ∷ faults) m acts q k =
       let k' : K (struck_machine entries f.kind m) acts = by_fault f m acts q.0 k in
-      let more : IsKept acts (strikes_at place entries faults (struck_machine entries f.kind m)) =
-      strikes_keep place faults (struck_machine entries f.kind m) acts q.1 k' in
-      split (f.after == place)
-      (λ e. rw (e, strikes_at) (past_trap_keeps acts (strikes_at place entries faults (struck_machine entries f.kind m)) m faults (trap_of f.kind) more k q.1))
+      let more : IsKept acts (strikes_at index entries faults (struck_machine entries f.kind m)) =
+      strikes_keep index faults (struck_machine entries f.kind m) acts q.1 k' in
+      split (f.after == index)
+      (λ e. rw (e, strikes_at) (past_trap_keeps acts (strikes_at index entries faults (struck_machine entries f.kind m)) m faults (trap_of f.kind) more k q.1))
       (λ e. rw (e, strikes_at) (record { machine = k; rest = q }))
 
   abbrev Ends : Burst → Type 0
@@ -51,7 +51,7 @@ module _ (K : Machine → List Act → Type 0) (Q : Fault → Type 0) (entries :
   burst_from_keeps zero faults m acts q k = k
   burst_from_keeps (suc left) faults m acts q k =
       let s : Struck = strikes_at (4096 - suc left) entries faults m in
-      let t : Turn = turn entries s.machine in
+      let t : Executed = turn entries s.machine in
       let struck : IsKept acts s = strikes_keep (4096 - suc left) faults m acts q k in
       let turned : K t.machine (acts ++ acts_of t.act) = by_turn s.machine acts struck.machine in
       turn_cases Ends left entries faults m acts s t refl refl

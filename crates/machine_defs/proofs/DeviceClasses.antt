@@ -1,4 +1,4 @@
--- A device stays of its class, whatever its driver does at its ports.
+-- A device keeps its class, whatever its driver does at its ports.
 use Rattle.std.proofs.Common.{◌≡◌, ℕ, ◌==◌, ◌&&◌, Bool, true, false, Option, List, if◌then◌else◌, nat_le, nat_lt, not, refl}
 use Rattle.nook_data.specs.declared.classes.Class.{Class}
 use Rattle.nook_data.specs.declared.devices.DeviceKind.{DeviceKind}
@@ -40,12 +40,12 @@ kind_output_keeps_class port word registers (kind.Link k) =
     (taken_by_choice _ _ (port == 2) _ _ (taken_by_choice _ _ (nat_lt k.position 64) _ _ refl refl) refl))
 kind_output_keeps_class port word registers kind.Speaker = taken_by_choice _ _ (port == 0) _ _ refl refl
 
--- after an IN the device is of its class
+-- after an IN the device is still of its class
 pub input_keeps_class : (port : ℕ) (d : DeviceState) → class_of (device_given (input_of port d) d) ≡ class_of d
 input_keeps_class port d =
     given_by_choice _ _ (is_register_port port) _ _ refl (kind_input_keeps_class port d.registers d.kind)
 
--- after an OUT the device is of its class
+-- after an OUT the device is still of its class
 pub output_keeps_class : (port word : ℕ) (d : DeviceState) → class_of (device_after (output_of port word d) d) ≡ class_of d
 output_keeps_class port word d =
     taken_by_choice _ _ (is_register_port port) _ _ refl (kind_output_keeps_class port word d.registers d.kind)

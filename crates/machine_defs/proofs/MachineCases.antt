@@ -1,5 +1,5 @@
--- Parts of the definitions by themselves, for laws that go through the cases of an Option, a Result or a kind. A
--- definition has each of them in its place.
+-- Parts of the definitions under separate names, for laws that split an Option, a Result or a kind into cases. The
+-- definitions contain the same parts inline.
 use Rattle.std.specs.Prelude.{ℕ, ◌==◌, ◌&&◌, nat_lt, Bool, false, if◌then◌else◌}
 use Rattle.std.specs.Prelude.{Option, Some, None, List, [], ◌∷◌, ◌++◌}
 use Rattle.nook_data.specs.Types.{DeviceKind, DeviceState}
@@ -12,7 +12,7 @@ use Rattle.nook_data.specs.declared.memory_map.TheConstants.{TEXT_WORDS}
 use Rattle.nook_data.specs.declared.scenario.FaultKind.TheVariants as fault
 use Rattle.machine_defs.specs.Burst.{Struck}
 use Rattle.machine_defs.specs.Devices.{Given, disk_input, is_below_most, link_input}
-use Rattle.machine_defs.specs.Turn.{Machine, Turn, executed, puts, trapped}
+use Rattle.machine_defs.specs.Execution.{Machine, Executed, executed, puts, trapped}
 use Rattle.machine_defs.specs.Machine.{decode_of}
 
 -- a fault writes the text word at the address
@@ -20,7 +20,7 @@ abbrev pub is_code_at : ℕ → FaultKind → Bool
 is_code_at address (fault.Code a value) = nat_lt a TEXT_WORDS && a == address
 is_code_at address _ = false
 
--- where the copy of a kernel object begins; other entries have none
+-- the start of the copy of a kernel object; other entries have none
 abbrev pub start_of_borrow : Entry → ℕ
 start_of_borrow (entry.Borrow object start) = start
 start_of_borrow _ = 0
@@ -41,7 +41,7 @@ kind_with_arrival frame (kind.Link k) =
     kind.Link (record k { ring = if is_below_most k.ring then k.ring ++ frame ∷ [] else k.ring })
 kind_with_arrival frame other = other
 
--- what IN gives at a port of the class
+-- what IN returns at a port of the class
 abbrev pub kind_input : ℕ → DeviceState → DeviceKind → Option Given
 kind_input port d (kind.Disk k) = disk_input port d k
 kind_input port d (kind.Link k) = link_input port d k
@@ -52,22 +52,22 @@ abbrev pub lends : ℕ → Entry → Bool
 lends context (entry.Buffer c writable) = c == context && writable
 lends context _ = false
 
--- a word that was read goes into a register
-abbrev pub past_read : Machine → ℕ → ℕ → Option ℕ → Turn
+-- after a read: the word goes into a register, or the instruction traps if there is none
+abbrev pub past_read : Machine → ℕ → ℕ → Option ℕ → Executed
 past_read m a address None = trapped m (trap.BadRead address)
 past_read m a address (Some word) = puts m a word
 
--- an instruction is executed
-abbrev pub past_decode : List Entry → Machine → Option Instr → Turn
+-- after decoding: the instruction is executed, or it traps if there is none
+abbrev pub past_decode : List Entry → Machine → Option Instr → Executed
 past_decode entries m None = trapped m trap.BadOpcode
 past_decode entries m (Some i) = executed entries m i
 
--- a word of text is decoded
-abbrev pub past_fetch : List Entry → Machine → Option ℕ → Turn
+-- after the fetch: the word of text is decoded, or the instruction traps if there is none
+abbrev pub past_fetch : List Entry → Machine → Option ℕ → Executed
 past_fetch entries m None = trapped m trap.BadFetch
 past_fetch entries m (Some word) = past_decode entries m (decode_of word)
 
--- a fault that is a trap stops the others of its place
+-- a fault that is a trap stops the later ones before the same instruction
 abbrev pub past_trap : Struck → Machine → List Fault → Option TrapCause → Struck
 past_trap more m rest None = more
 past_trap more m rest (Some cause) = record { machine = m; rest = rest; stopped = Some cause }

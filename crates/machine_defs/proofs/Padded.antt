@@ -3,7 +3,7 @@ use Rattle.std.proofs.Common.{◌++◌, ◌≡◌, ℕ, ◌+◌, ◌-◌, ◌≤
 use Rattle.std.proofs.lemmas.List.{length-replicate}
 use Rattle.machine_defs.specs.Pages.{padded_words}
 
--- words that are padded are so many
+-- padding words to a number yields that many
 pub length-padded_words : (n : ℕ) (words : List ℕ) → length words ≤ n → length (padded_words n words) ≡ n
 length-padded_words n words h =
     let tail : List ℕ = replicate (n - length words) 0 in

@@ -2,7 +2,7 @@ pub mod Views
 pub mod Machine
 pub mod Mnemonics
 pub mod Pages
-pub mod Turn
+pub mod Execution
 pub mod Burst
 pub mod BurstFaults
 pub mod Devices

@@ -20,7 +20,7 @@ b_field w = w / 2 ^ 16 % 2 ^ 4
 abbrev pub imm_field : ℕ → ℕ
 imm_field w = w % 2 ^ 16
 
--- the fields of a word that a form does not have are 0
+-- the fields that a form does not have are 0
 abbrev pub has_no_other : Form → ℕ → ℕ → ℕ → Bool
 has_no_other form.Bare a b imm = a == 0 && b == 0 && imm == 0
 has_no_other form.A a b imm = b == 0 && imm == 0
@@ -34,7 +34,7 @@ abbrev pub is_of_row : ℕ → Mnemonic → Bool
 is_of_row w m = op_field w == (instruction_row m).number
     && has_no_other (instruction_row m).form (a_field w) (b_field w) (imm_field w)
 
--- the instruction of a word, by its row; None where it is of no row
+-- the instruction that a word encodes; None if it is of no mnemonic's row
 abbrev pub decode_of : ℕ → Option Instr
 decode_of w = option_map (λ m. instr_with m (a_field w) (b_field w) (imm_field w)) (find (is_of_row w) mnemonics)
 
@@ -42,6 +42,6 @@ decode_of w = option_map (λ m. instr_with m (a_field w) (b_field w) (imm_field 
 abbrev pub word_of : ℕ → ℕ → ℕ → ℕ → ℕ
 word_of op a b imm = op * 2 ^ 24 + a * 2 ^ 20 + b * 2 ^ 16 + imm
 
--- the one word of an instruction, its fields in range: the number of its row, and its operands
+-- the only word that encodes an instruction whose fields are in range: the number of its row, and its operands
 abbrev pub encode_of : Instr → ℕ
 encode_of i = word_of (instruction_row (fields_of i).mnemonic).number (fields_of i).a (fields_of i).b (fields_of i).imm

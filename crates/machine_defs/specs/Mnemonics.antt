@@ -5,17 +5,17 @@ use Rattle.nook_data.specs.declared.machine.Form.TheVariants as form
 use Rattle.nook_data.specs.declared.machine.Mnemonic.TheVariants as mnemonic
 use Rattle.nook_data.specs.declared.machine.Instr.TheVariants as instr
 
--- The instruction table. Words are decoded and encoded by it, and texts assembled and disassembled.
+-- The instruction table. It defines how words are decoded and encoded, and how texts are assembled and disassembled.
 
--- a row: the instruction's name and number, its form, and the instruction of its operands: registers a and b and the
--- immediate, of which it has those of its form
+-- a row: the instruction's name, number and form, and a function from operands to the instruction; it ignores
+-- operands that the form does not have
 pub record InstructionRow : Type 0 where
   pub name : List ℕ
   pub number : ℕ
   pub form : Form
   pub of_operands : ℕ → ℕ → ℕ → Instr
 
--- a row of these
+-- a row with these fields
 abbrev pub row : List ℕ → ℕ → Form → (ℕ → ℕ → ℕ → Instr) → InstructionRow
 row name number operands make = record { name = name; number = number; form = operands; of_operands = make }
 
@@ -58,19 +58,19 @@ mnemonics =
 abbrev pub mnemonic_text : Mnemonic → List ℕ
 mnemonic_text m = (instruction_row m).name
 
--- the mnemonic whose text a name is
+-- the mnemonic with this text
 unfoldable pub mnemonic_named : List ℕ → Option Mnemonic
 mnemonic_named name = of_text mnemonic_text mnemonics name
 
--- which operands follow a mnemonic
+-- the operands that follow a mnemonic
 abbrev pub form_of : Mnemonic → Form
 form_of m = (instruction_row m).form
 
--- the instruction of a mnemonic and its operands; those that its form does not have are not read
+-- the instruction with a mnemonic and operands; operands that its form does not have are ignored
 abbrev pub instr_with : Mnemonic → ℕ → ℕ → ℕ → Instr
 instr_with m a b imm = (instruction_row m).of_operands a b imm
 
--- an instruction as a mnemonic and operands, 0 where its form has none
+-- an instruction as a mnemonic and operands; an operand that its form does not have is 0
 pub record Fields : Type 0 where
   pub mnemonic : Mnemonic
   pub a : ℕ

@@ -17,7 +17,7 @@ abbrev pub is_lent : List Entry → ℕ → Bool
 is_lent entries context =
     list_any (λ e. elim e [ (entry.Buffer c writable) ↦ c == context && writable | _ ↦ false ]) entries
 
--- a driver may write the address: it is of the data or the stacks, or of a buffer that is lent for writing
+-- a driver may write the address: it is in the data or the stacks, or in a buffer that is lent for writing
 abbrev pub may_write_where : (ℕ → Bool) → ℕ → Bool
 may_write_where lent address = nat_le DATA_START address && nat_lt address STACKS_END
     || (nat_le STACKS_END address && nat_lt address BUFFERS_END) && lent ((address - STACKS_END) / BUFFER_WORDS)
@@ -26,15 +26,15 @@ may_write_where lent address = nat_le DATA_START address && nat_lt address STACK
 abbrev pub may_write : List Entry → ℕ → Bool
 may_write entries address = may_write_where (is_lent entries) address
 
--- the word at an address, where it may be read
+-- the word at an address, if it may be read
 abbrev pub read_word : List ℕ → ℕ → Option ℕ
 read_word memory address = if nat_lt address MEMORY_WORDS then Some (slice_index memory address) else None
 
--- the word at an address of the text, where it may be fetched
+-- the word at an address of the text, if it may be fetched
 abbrev pub fetch_word : List ℕ → ℕ → Option ℕ
 fetch_word memory address = if nat_lt address TEXT_WORDS then Some (slice_index memory address) else None
 
--- memory after a driver's write: as before where it may not write there
+-- memory after a driver's write; it is unchanged if the driver may not write the address
 abbrev pub written : List Entry → ℕ → ℕ → List ℕ → List ℕ
 written entries address word memory = if may_write entries address then slice_set memory address word else memory
 
@@ -42,7 +42,7 @@ written entries address word memory = if may_write entries address then slice_se
 abbrev pub with_words : ℕ → List ℕ → List ℕ → List ℕ
 with_words start words memory = take start memory ++ (words ++ drop (start + length words) memory)
 
--- words and then zeros, n in all
+-- words followed by zeros, n in all
 abbrev pub padded_words : ℕ → List ℕ → List ℕ
 padded_words n words = words ++ replicate (n - length words) 0
 
@@ -50,21 +50,21 @@ padded_words n words = words ++ replicate (n - length words) 0
 abbrev pub object_words : ℕ → List ℕ → List ℕ
 object_words object memory = slice_range memory (object_start object) (object_start object + OBJECT_WORDS)
 
--- what a kernel object 1 to 12 holds at first: its number and zeros; the memory below says what object 0 holds
+-- the initial words of kernel object 1 to 12: its number and zeros; `opening_memory` defines those of object 0
 abbrev pub opening_object : ℕ → List ℕ
 opening_object object = padded_words OBJECT_WORDS (object ∷ [])
 
--- so many kernel objects from a number on, one after the other
+-- the initial words of this many consecutive kernel objects from a number on
 abbrev pub opening_objects : ℕ → ℕ → List ℕ
 opening_objects object zero = []
 opening_objects object (suc more) = opening_object object ++ opening_objects (suc object) more
 
--- memory at first: zeros, then object 0 with the defaults, then objects 1 to 12
+-- the initial memory: zeros, then object 0 with the defaults, then objects 1 to 12
 unfoldable pub opening_memory : List ℕ → List ℕ
 opening_memory defaults =
     replicate BUFFERS_END 0 ++ (padded_words OBJECT_WORDS defaults ++ opening_objects 1 LAST_OBJECT)
 
--- memory with an image put in place: its text, its initial words, zeros to the last buffer page; the objects stay
+-- memory after an image is loaded: its text, its initial words, zeros up to the last buffer page; the objects stay
 unfoldable pub loaded_memory : Image → List ℕ → List ℕ
 loaded_memory image memory = padded_words TEXT_WORDS image.text
     ++ (padded_words (BUFFERS_END - DATA_START) image.initial ++ drop BUFFERS_END memory)

@@ -1,5 +1,5 @@
--- How contracts see the data of code, and names that they give to pieces of the definitions. The promises of the program
--- rest on none of these.
+-- How contracts see the data of code, and names for pieces of the definitions. The promises of the program
+-- do not depend on these.
 pub mod PageMap
 pub mod Tracker
 pub mod Ports

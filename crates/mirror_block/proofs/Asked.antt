@@ -1,4 +1,4 @@
--- How asking a side ends, by how its desk's call ends.
+-- How asking a side ends, from how its desk's call ends.
 use Rattle.std.proofs.Common.{◌≡◌, ◌⊎◌, ℕ, suc, ◌+◌, ◌-◌, ◌<◌, ◌≤◌, true, false, Option, Some, None, Ok, Err, List, [], ◌∷◌, length, slice_get, subst, sym, refl, ap, ◌∙◌, inl, inr, arith}
 use Rattle.nook_data.specs.declared.calls.Answer.{Answer}
 use Rattle.nook_data.specs.declared.calls.CallEntry.{CallEntry}
@@ -12,20 +12,20 @@ use Rattle.nook_data.specs.declared.scenario.PartSpec.{PartSpec}
 use Rattle.nook_data.specs.declared.desks.Receipt.{Receipt}
 use Rattle.nook_data.specs.Classes.{static_check}
 use Rattle.part_defs.specs.Log.{call_of_thread}
-use Rattle.nook_data.specs.Places.{at_number}
+use Rattle.nook_data.specs.Numbered.{at_number}
 use Rattle.part_defs.specs.Runs.{IsRun, state_of}
 use Rattle.part_defs.specs.State.{PartState}
 use Rattle.shares.specs.Shares.{IsWhole}
 use Rattle.desk_like.specs.Desks.{Accounts, CallEnds, DeskView, HasOpen}
 use Rattle.mirror_block.specs.Disk.{IsShown, MayAnswer}
 use Rattle.mirror_block.specs.Rule.{is_disk_op}
-use Rattle.mirror_block.specs.Sides.{IsAsked, IsFull, IsSide, WantsMemory, and_more, answers_gained}
-use Rattle.mirror_block.proofs.Calls.{answered_once, asked, calls_counted, closed_behind, given, open_unanswered}
+use Rattle.mirror_block.specs.Sides.{IsAsked, IsFull, IsSide, NeedsMemory, and_more, answers_gained}
+use Rattle.mirror_block.proofs.Calls.{answered_once, asked, calls_counted, closed_following, given, open_unanswered}
 use Rattle.mirror_block.proofs.DiskAnswers.{called_may}
-use Rattle.mirror_block.proofs.Gains.{IsCalled, called, nothing_added, place_behind}
+use Rattle.mirror_block.proofs.Gains.{IsCalled, called, nothing_added, position_after}
 use Rattle.mirror_block.proofs.Plain.{call_shown, served_by}
 
--- where no call is open, no thread has one
+-- if no call is open, no thread has an open one
 none_has : (p : PartState) (thread call : ℕ) → p.log.pending ≡ [] → HasOpen p thread call → ⊥
 none_has p thread call none h = absurd cc (sym h.open_one ∙ ap (λ (l : List CallEntry). call_of_thread thread l) none)
 
@@ -45,15 +45,15 @@ module _ (spec : PartSpec) (old new : DeskView) (o : Op) (side : IsSide spec spe
     idle = λ e. absurd cc;
   }
 
-  -- the event of a place from the invocation on
-  from_place : (call at : ℕ) (e : Event) → (c : IsCalled old new call o) → suc (length old.seen) ≤ at → at_number at new.seen ≡ Some e
+  -- an event from the invocation on, by its number
+  from_position : (call at : ℕ) (e : Event) → (c : IsCalled old new call o) → suc (length old.seen) ≤ at → at_number at new.seen ≡ Some e
       → (i : ℕ) × (slice_get (event.Invoke call 0 o c.answer ∷ c.tail) i ≡ Some e)
-  from_place call at e c low there =
+  from_position call at e c low there =
       let i : ℕ = at - suc (length old.seen) in
-      let place : at ≡ suc (length old.seen + i) = omega arith in (
+      let index : at ≡ suc (length old.seen + i) = omega arith in (
         i,
-        sym (place_behind old.seen (event.Invoke call 0 o c.answer ∷ c.tail) i)
-            ∙ ap (λ (l : List Event). slice_get l (length old.seen + i)) c.seen ∙ ap (λ (n : ℕ). at_number n new.seen) (sym place) ∙ there,
+        sym (position_after old.seen (event.Invoke call 0 o c.answer ∷ c.tail) i)
+            ∙ ap (λ (l : List Event). slice_get l (length old.seen + i)) c.seen ∙ ap (λ (n : ℕ). at_number n new.seen) (sym index) ∙ there,
       )
 
   pub said : (receipt : Receipt) → is_disk_op o ≡ true → CallEnds spec old new 0 o (Ok receipt)
@@ -63,8 +63,8 @@ module _ (spec : PartSpec) (old new : DeskView) (o : Op) (side : IsSide spec spe
       let c : IsCalled old new receipt.call o = called old new receipt.call o receipt.at_invoke side.alone ends.0 in
       let low : length old.seen < receipt.at_invoke = ends.0.adds.rising.0 in
       let later : receipt.at_invoke ≤ receipt.at_reply = ends.1.ordered in
-      let place = from_place receipt.call receipt.at_reply ends.1.answered.event c (omega arith) ends.1.answered.there in
-      let first = answered_once spec old new receipt.call o run none c receipt.answer place.0 ends.1.answered.event place.1 ends.1.answered.is in (
+      let index = from_position receipt.call receipt.at_reply ends.1.answered.event c (omega arith) ends.1.answered.there in
+      let first = answered_once spec old new receipt.call o run none c receipt.answer index.0 ends.1.answered.event index.1 ends.1.answered.is in (
         asked spec old new receipt.call o run none c,
         given spec old new receipt.call o run none c ∙ ap (λ (x : Option Answer). and_more x []) first,
         record {
@@ -73,14 +73,14 @@ module _ (spec : PartSpec) (old new : DeskView) (o : Op) (side : IsSide spec spe
           alone = subst IsWhole (sym ends.0.adds.share) side.alone;
           accounts = accounts;
           run = run;
-          none_open = λ e. closed_behind spec old new receipt.call o run none c receipt.answer first;
+          none_open = λ e. closed_following spec old new receipt.call o run none c receipt.answer first;
           idle = λ e device shows. (served_by spec.blocks old new receipt.call o disk_op c receipt.answer first (side.idle refl) device shows).over;
         },
         call_shown spec.blocks old new receipt.call o disk_op c receipt.answer first (side.idle refl),
         λ e. called_may spec old new receipt.call o disk_op side.class run none c e receipt.answer first,
       )
 
-  pub no_memory : (which : Option ℕ) → CallEnds spec old new 0 o (Err (refused.NoMemory which)) → WantsMemory old new o × IsSide spec spec.blocks true new
+  pub no_memory : (which : Option ℕ) → CallEnds spec old new 0 o (Err (refused.NoMemory which)) → NeedsMemory old new o × IsSide spec spec.blocks true new
   no_memory None ends = (inl (nothing_added old new side.alone ends), stopped_side ends.share)
   no_memory (Some call) ends =
       let c : IsCalled old new call o = called old new call o ends.1.0 side.alone ends.1.1 in
@@ -89,7 +89,7 @@ module _ (spec : PartSpec) (old new : DeskView) (o : Op) (side : IsSide spec spe
         stopped_side ends.1.1.adds.share,
       )
 
-  -- no call is open at a side that is asked, so memory or numbers of calls were wanting
+  -- no call is open at a side that is asked, so a refusal means that memory or call numbers ran out
   pub why_refused : (why : DeskRefused) → CallEnds spec old new 0 o (Err why) → ((which : Option ℕ) × (why ≡ refused.NoMemory which)) ⊎ (why ≡ refused.TooManyCalls)
   why_refused (refused.NoMemory which) ends = inl (which, refl)
   why_refused refused.TooManyCalls ends = inr refl

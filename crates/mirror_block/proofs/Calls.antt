@@ -28,7 +28,7 @@ use Rattle.part_defs.specs.State.{PartState}
 use Rattle.part_defs.specs.Steps.{after_arrival, burst_stepped, enabled, opening, stepped}
 use Rattle.part_laws.specs.Bound.{calls_of, is_invoke}
 use Rattle.part_laws.proofs.Counts.{counted_from}
-use Rattle.part_laws.proofs.Places.{some_same}
+use Rattle.part_laws.proofs.Indices.{some_same}
 use Rattle.part_laws.proofs.RunBound.{count_more}
 use Rattle.part_laws.proofs.CallNumbers.{CameFrom, HasEntry, Quiet, small_calls}
 use Rattle.app_threads.proofs.Listed.{prefix_refl}
@@ -56,7 +56,7 @@ others_given (event.Burst context c burst count end acts answer failure ∷ even
 others_given (event.Stage s answers released ∷ events) h = others_given events h.1
 others_given (event.Arrive frame kept ∷ events) h = absurd h.0
 
--- the invocations are as many as the calls that are counted
+-- there are as many invocations as counted calls
 invocations_counted : (events : List Event) → length (invocations events) ≡ calls_of events
 invocations_counted [] = refl
 invocations_counted (event.Invoke c t o answer ∷ events) = let r = invocations_counted events in let m = count_more is_invoke (event.Invoke c t o answer) events in omega arith
@@ -111,9 +111,9 @@ invoke_room : (p : PartState) (t : ℕ) (o : Op) → enabled p (step.Invoke t o)
 unfolding enabled
 invoke_room p t o h = ltb-true p.log.count 100000 (and_parts (nat_lt t 16 && is_none (call_of_thread t p.log.pending)) (nat_lt p.log.count 100000) h).1
 
--- ---- one event more
+-- ---- one more event
 
--- what is open behind an event was open before it, or has a higher number, and the event did not answer it
+-- a call that is open after an event was open before or has a higher number, and the event did not answer it
 record Opens (p q : PartState) (e : Event) : Type 0 where
   numbered : IsNumbered 0 q.log.count q.log.pending
   counted : q.log.count ≡ p.log.count + calls_of (e ∷ [])
@@ -148,7 +148,7 @@ none_left : (P : CallEntry → Type 0) (xs : List CallEntry) → ((x : CallEntry
 none_left P [] f h = refl
 none_left P (x ∷ xs) f h = absurd (f x h.0)
 
--- so it is behind an event that invokes nothing
+-- the same holds after an event that invokes nothing
 may_have_after : (call : ℕ) (p : PartState) (e : Event) (events : List Event) → MayHave call p → IsOther e → IsRunFrom p (e ∷ events)
     → MayHave call (state_after p (step_of e)) × IsRunFrom (state_after p (step_of e)) events
 may_have_after call p e events m other r =
@@ -174,7 +174,7 @@ may_have_after call p e events m other r =
     came c t (inl k) l n = entry_is call p.log.pending c t m.only k
     came c t (inr k) l n = absurd (omega arith)
 
--- behind its answer nothing is open
+-- after its answer no call is open
 closed_after : (call : ℕ) (a : Answer) (p : PartState) (e : Event) (events : List Event) → MayHave call p → IsOther e → IsRunFrom p (e ∷ events) → answer_at call e ≡ Some a
     → (state_after p (step_of e)).log.pending ≡ []
 closed_after call a p e events m other r h =
@@ -186,7 +186,7 @@ closed_after call a p e events m other r h =
     (all_both (λ (x : CallEntry). x.call ≡ call) (λ (x : CallEntry). AllByRecursion (Quiet x.call x.thread) (e ∷ []) × CameFrom p.log x.call x.thread)
     (λ (x : CallEntry). (x.call ≡ call) × (answer_at x.call e ≡ None)) q.log.pending (λ x k l. (k, l.0.0.0)) n.only o.entries)
 
--- ---- nothing is answered where nothing is open
+-- ---- nothing is answered if nothing is open
 
 zero_other : (call : ℕ) (a : Option Answer) → 1 ≤ call → answer_among call (one_answer 0 a) ≡ None
 zero_other call None h = refl
@@ -254,10 +254,10 @@ silent_after call p (e ∷ events) l m none others r =
       silent_after call (state_after p (step_of e)) events l k.0 (none_stays call p e events m none others.0 r) others.1 k.1,
     )
 
-in_place : (P : Event → Type 0) (events : List Event) (i : ℕ) (e : Event) → AllByRecursion P events → slice_get events i ≡ Some e → P e
-in_place P [] i e h at = absurd cc
-in_place P (x ∷ events) zero e h at = subst P (some_same x e at) h.0
-in_place P (x ∷ events) (suc i) e h at = in_place P events i e h.1 at
+in_position : (P : Event → Type 0) (events : List Event) (i : ℕ) (e : Event) → AllByRecursion P events → slice_get events i ≡ Some e → P e
+in_position P [] i e h at = absurd cc
+in_position P (x ∷ events) zero e h at = subst P (some_same x e at) h.0
+in_position P (x ∷ events) (suc i) e h at = in_position P events i e h.1 at
 
 -- the call is answered once
 once : (call : ℕ) (a : Answer) (p : PartState) (events : List Event) → 1 ≤ call → MayHave call p → AllByRecursion IsOther events → IsRunFrom p events
@@ -274,7 +274,7 @@ once call a p (x ∷ events) l m others r (suc i) e at h =
     by_first None q later n s = ap (λ (o : Option Answer). or_later o (first_answer call events)) q ∙ later
     by_first (Some b) q later n s =
         let none = closed_after call b p x events m others.0 r q in
-        let silent = in_place (λ y. answer_at call y ≡ None) events i e (silent_after call (state_after p (step_of x)) events l n none others.1 s) at in
+        let silent = in_position (λ y. answer_at call y ≡ None) events i e (silent_after call (state_after p (step_of x)) events l n none others.1 s) at in
         absurd (let f : None ≡ Some a = sym silent ∙ h in cc)
 
 none_first : (call : ℕ) (events : List Event) → AllByRecursion (λ e. answer_at call e ≡ None) events → first_answer call events ≡ None
@@ -325,7 +325,7 @@ module _ (spec : PartSpec) (old new : DeskView) (call : ℕ) (o : Op) (run : IsR
   pub given : answers_gained old new ≡ and_more (first_answer call (first ∷ c.tail)) []
   given = ap answers_given (gained_is old new (first ∷ c.tail) c.seen) ∙ ap (and_more (first_answer call (first ∷ c.tail))) (others_given c.tail c.others)
 
-  -- behind the invocation that call alone may be open
+  -- after the invocation only that call may be open
   opened : Opens before (state_after before (step.Invoke 0 o)) first × IsRunFrom (state_after before (step.Invoke 0 o)) c.tail
   opened = opens before first c.tail none_numbered parts.1
 
@@ -352,7 +352,7 @@ module _ (spec : PartSpec) (old new : DeskView) (call : ℕ) (o : Op) (run : IsR
       came n t (inl k) l m = absurd (subst (λ (xs : List CallEntry). HasEntry xs n t) none k)
       came n t (inr k) l m = let f = number in omega arith
 
-  -- what answers the call behind its invocation is its first answer
+  -- an event after the invocation that answers the call gives its first answer
   pub answered_once : (a : Answer) (i : ℕ) (e : Event) → slice_get (first ∷ c.tail) i ≡ Some e → answer_at call e ≡ Some a → first_answer call (first ∷ c.tail) ≡ Some a
   answered_once a zero e at h = ap (λ (x : Option Answer). or_later x (first_answer call c.tail)) (ap (answer_at call) (some_same first e at) ∙ h)
   answered_once a (suc i) e at h = by_first (answer_at call first) refl
@@ -370,12 +370,12 @@ module _ (spec : PartSpec) (old new : DeskView) (call : ℕ) (o : Op) (run : IsR
       by_first : (x : Option Answer) → answer_at call first ≡ x → first_answer call (first ∷ c.tail) ≡ Some a
       by_first None q = ap (λ (x : Option Answer). or_later x (first_answer call c.tail)) q ∙ once call a after_first c.tail low may_have c.others opened.1 i e at h
       by_first (Some b) q =
-          let silent = in_place (λ y. answer_at call y ≡ None) c.tail i e (silent_after call after_first c.tail low may_have (closed b q) c.others opened.1) at in
+          let silent = in_position (λ y. answer_at call y ≡ None) c.tail i e (silent_after call after_first c.tail low may_have (closed b q) c.others opened.1) at in
           absurd (let f : None ≡ Some a = sym silent ∙ h in cc)
 
-  -- behind the answer no call is open
-  pub closed_behind : (a : Answer) → first_answer call (first ∷ c.tail) ≡ Some a → (state_of spec new.seen).log.pending ≡ []
-  closed_behind a h =
+  -- after the answer no call is open
+  pub closed_following : (a : Answer) → first_answer call (first ∷ c.tail) ≡ Some a → (state_of spec new.seen).log.pending ≡ []
+  closed_following a h =
       let end : PartState = state_from before (first ∷ c.tail) in
       let k = open_after before (first ∷ c.tail) none_numbered parts.1 in
       let n : end.log.count ≡ before.log.count + calls_of (first ∷ c.tail) = (counted_from before (first ∷ c.tail) parts.1).calls' in

@@ -1,4 +1,4 @@
--- What a part answers where only a Read or Write is open: blocks or done, a block that failed, or Gone.
+-- What a part answers if only a Read or Write is open: blocks or done, a block that failed, or Gone.
 use Rattle.std.proofs.Common.{◌≡◌, ◌⊎◌, inl, inr, ℕ, ◌+◌, Bool, true, false, cond, Option, Some, None, Result, Ok, Err, List, [], ◌∷◌, ◌++◌, length, map, filter, find, sym, refl, ap, subst, ◌∙◌}
 use Rattle.std.specs.Prelude.{if◌then◌else◌, ◌==◌}
 use Rattle.std.specs.List.{AllByRecursion}
@@ -29,7 +29,7 @@ use Rattle.nook_data.specs.declared.machine.BurstEnd.{BurstEnd}
 use Rattle.nook_data.specs.declared.machine.BurstEnd.TheVariants as ends
 use Rattle.nook_data.specs.declared.machine.Service.{Service}
 use Rattle.nook_data.specs.Answers.{answer_among, answer_at, answers_of, one_answer}
-use Rattle.nook_data.specs.Classes.{accept, admit, entry_place, static_check}
+use Rattle.nook_data.specs.Classes.{accept, admit, entry_address, static_check}
 use Rattle.machine_defs.specs.BurstFaults.{faults_of_burst}
 use Rattle.machine_defs.specs.Services.{checked}
 use Rattle.part_defs.specs.Calls.{Stepped, after_admit, after_enter, after_invoke, answer_in, invoked_with, queue_in}
@@ -44,7 +44,7 @@ use Rattle.part_defs.specs.Steps.{after_arrival, burst_stepped, opening, served_
 use Rattle.part_defs.proofs.PartCases.{change_entry, entered_by, entered_call, invoked_by, is_of_thread, new_entry, reply_by, serve_by, stage_by, with_burst}
 use Rattle.part_laws.proofs.DeviceStays.{run_spec}
 use Rattle.part_laws.proofs.OrderlyRuns.{ClosesCall, ClosesNone, crossing_crosses}
-use Rattle.part_laws.proofs.Places.{some_same}
+use Rattle.part_laws.proofs.Indices.{some_same}
 use Rattle.desk_like.specs.Desks.{DeskView, IsOther}
 use Rattle.mirror_block.specs.Disk.{MayAnswer}
 use Rattle.mirror_block.specs.Rule.{is_disk_op}
@@ -52,7 +52,7 @@ use Rattle.mirror_block.specs.Sides.{first_answer, or_later}
 use Rattle.mirror_block.proofs.Calls.{run_parts}
 use Rattle.mirror_block.proofs.Gains.{IsCalled}
 
--- each of these answers is one to the operation
+-- each of these answers is an answer to the operation
 abbrev pub AllMay : Op → List (ℕ × Answer) → Type 0
 AllMay o answers = AllByRecursion (λ (x : ℕ × Answer). MayAnswer x.1 o) answers
 
@@ -60,19 +60,19 @@ AllMay o answers = AllByRecursion (λ (x : ℕ × Answer). MayAnswer x.1 o) answ
 abbrev pub OnlyOp : Op → List CallEntry → Type 0
 OnlyOp o pending = AllByRecursion (λ (c : CallEntry). c.op ≡ o) pending
 
--- a step answers the operation alone, and leaves no other open
+-- a step answers only this operation, and leaves no other one open
 record Fits (o : Op) (t : Stepped) : Type 0 where
-  told : AllMay o (answers_of t.event)
+  reported : AllMay o (answers_of t.event)
   only : OnlyOp o t.state.log.pending
 
--- a choice by a test, where each way holds
+-- a choice by a test has a property if both branches have it
 by_either : {X : Type 0} (P : X → Type 0) (b : Bool) (x y : X) → P x → P y → P (if b then x else y)
 by_either P true x y h k = h
 by_either P false x y h k = k
 
--- ---- what the tables say of a Read or Write
+-- ---- what the tables say about a Read or Write
 
-admits_so : (o : Op) → is_disk_op o ≡ true → (class : Class) (thread : ℕ) (holder : Option ℕ) (queued : ℕ) → admit class thread o holder queued ≡ admits.Enter (entry_place class o)
+admits_so : (o : Op) → is_disk_op o ≡ true → (class : Class) (thread : ℕ) (holder : Option ℕ) (queued : ℕ) → admit class thread o holder queued ≡ admits.Enter (entry_address class o)
 admits_so (Read first count) d class thread holder queued = refl
 admits_so (Write first words) d class thread holder queued = refl
 admits_so (Send frame) d class thread holder queued = absurd cc
@@ -143,8 +143,8 @@ module _ (o : Op) (disk : is_disk_op o ≡ true) where
   invoke_fits : (p : PartState) (thread : ℕ) (a : Option Answer) (queue : List (List ℕ)) → OnlyOp o p.log.pending → ((x : Answer) → a ≡ Some x → MayAnswer x o)
       → Fits o (invoked_with p thread o a queue)
   unfolding with_call with_answered_call
-  invoke_fits p thread None queue h f = record { told = tt; only = pushed_only p.log.pending (new_entry (p.log.count + 1) thread o) refl h }
-  invoke_fits p thread (Some x) queue h f = record { told = (f x refl, tt); only = h }
+  invoke_fits p thread None queue h f = record { reported = tt; only = pushed_only p.log.pending (new_entry (p.log.count + 1) thread o) refl h }
+  invoke_fits p thread (Some x) queue h f = record { reported = (f x refl, tt); only = h }
 
   mode_may : (m : Mode) (p : PartState) (thread : ℕ) (x : Answer) → answer_in m thread o p ≡ Some x → MayAnswer x o
   mode_may (mode.Boot s) p thread x h = absurd cc
@@ -164,55 +164,55 @@ module _ (o : Op) (disk : is_disk_op o ≡ true) where
   enters_op : (call : ℕ) (c : CallEntry) → (change_entry call entered_call c).op ≡ c.op
   enters_op call c = elim (c.call == call) as (λ b. (if b then entered_call c else c).op ≡ c.op) [ true ↦ refl | false ↦ refl ]
 
-  admitted_fits : (p : PartState) (c : CallEntry) (place : ℕ) → OnlyOp o p.log.pending → Fits o (after_admit p c (admits.Enter place))
+  admitted_fits : (p : PartState) (c : CallEntry) (index : ℕ) → OnlyOp o p.log.pending → Fits o (after_admit p c (admits.Enter index))
   unfolding after_entering
-  admitted_fits p c place h = record { told = tt; only = mapped_only (change_entry c.call entered_call) p.log.pending (enters_op c.call) h }
+  admitted_fits p c index h = record { reported = tt; only = mapped_only (change_entry c.call entered_call) p.log.pending (enters_op c.call) h }
 
   enter_fits : (p : PartState) (thread : ℕ) (c : Option CallEntry) → call_of_thread thread p.log.pending ≡ c → OnlyOp o p.log.pending → Fits o (entered_by p thread c)
-  enter_fits p thread None e h = record { told = tt; only = h }
+  enter_fits p thread None e h = record { reported = tt; only = h }
   enter_fits p thread (Some c) e h =
-      let enters : admit p.spec.class thread c.op p.log.holder (length p.queue) ≡ admits.Enter (entry_place p.spec.class o) =
+      let enters : admit p.spec.class thread c.op p.log.holder (length p.queue) ≡ admits.Enter (entry_address p.spec.class o) =
       ap (λ (x : Op). admit p.spec.class thread x p.log.holder (length p.queue)) (found_op thread p.log.pending c h e)
       ∙ admits_so o disk p.spec.class thread p.log.holder (length p.queue) in
-      subst (λ (a : Admit). Fits o (after_admit p c a)) (sym enters) (admitted_fits p c (entry_place p.spec.class o) h)
+      subst (λ (a : Admit). Fits o (after_admit p c a)) (sym enters) (admitted_fits p c (entry_address p.spec.class o) h)
 
   -- ---- crossings
 
-  -- a crossing answers the operation alone
-  abbrev Tells : Crossed → Type 0
-  Tells x = (a : Answer) → x.answer ≡ Some a → MayAnswer a o
+  -- a crossing answers only this operation
+  abbrev Reports : Crossed → Type 0
+  Reports x = (a : Answer) → x.answer ≡ Some a → MayAnswer a o
 
-  serve_tells : (number context : ℕ) (p : PartState) (r : Result Service BadParam) → Tells (serve_by number context p r)
-  serve_tells number context p (Err bad) a h = absurd cc
-  serve_tells number context p (Ok s) a h = absurd cc
+  serve_reports : (number context : ℕ) (p : PartState) (r : Result Service BadParam) → Reports (serve_by number context p r)
+  serve_reports number context p (Err bad) a h = absurd cc
+  serve_reports number context p (Ok s) a h = absurd cc
 
-  shadow_tells : (status : ℕ) (p : PartState) → Tells (shadow_replied status p)
-  shadow_tells status p =
-      by_either Tells (is_accepted status p) (goes_on (next_stage p) (end.Reply status)) (failed_crossing p (end.Reply status) (shadow_fault status (stage_in p.mode)))
+  shadow_reports : (status : ℕ) (p : PartState) → Reports (shadow_replied status p)
+  shadow_reports status p =
+      by_either Reports (is_accepted status p) (goes_on (next_stage p) (end.Reply status)) (failed_crossing p (end.Reply status) (shadow_fault status (stage_in p.mode)))
       (λ a h. absurd cc) (λ a h. absurd cc)
 
-  reply_tells : (c : CallEntry) (status : ℕ) (p : PartState) (r : Accept) → c.op ≡ o → Tells (reply_by c status p r)
-  reply_tells c status p accepts.Take e a h =
+  reply_reports : (c : CallEntry) (status : ℕ) (p : PartState) (r : Accept) → c.op ≡ o → Reports (reply_by c status p r)
+  reply_reports c status p accepts.Take e a h =
       subst (λ (x : Answer). MayAnswer x o) (some_same (reply_answer c.op c.thread p) a h)
       (subst (λ (q : Op). MayAnswer (reply_answer q c.thread p) o) (sym e) (reply_may o disk c.thread p))
-  reply_tells c status p (accepts.IoError block) e a h = subst (λ (x : Answer). MayAnswer x o) (some_same (answered.IoError block) a h) tt
-  reply_tells c status p (accepts.Fail cause) e a h = absurd cc
+  reply_reports c status p (accepts.IoError block) e a h = subst (λ (x : Answer). MayAnswer x o) (some_same (answered.IoError block) a h) tt
+  reply_reports c status p (accepts.Fail cause) e a h = absurd cc
 
-  call_tells : (status : ℕ) (p : PartState) (c : Option CallEntry) → ((x : CallEntry) → c ≡ Some x → x.op ≡ o) → Tells (call_replied status p c)
-  call_tells status p None f a h = absurd cc
-  call_tells status p (Some c) f a h = reply_tells c status p (accept c.op status) (f c refl) a h
+  call_reports : (status : ℕ) (p : PartState) (c : Option CallEntry) → ((x : CallEntry) → c ≡ Some x → x.op ≡ o) → Reports (call_replied status p c)
+  call_reports status p None f a h = absurd cc
+  call_reports status p (Some c) f a h = reply_reports c status p (accept c.op status) (f c refl) a h
 
-  crossing_tells : (context : ℕ) (e : BurstEnd) (p : PartState) → OnlyOp o p.log.pending → Tells (after_crossing context e p)
+  crossing_reports : (context : ℕ) (e : BurstEnd) (p : PartState) → OnlyOp o p.log.pending → Reports (after_crossing context e p)
   unfolding after_crossing
-  crossing_tells context (ends.Trap cause) p h = λ a k. absurd cc
-  crossing_tells context (ends.Kcall number) p h =
-      by_either Tells (is_last context p) (failed_crossing p (refused_service number context p) fail.TooManyCrossings) (kernel_call number context p) (λ a k. absurd cc)
-      (serve_tells number context p (checked number (first_argument context p.domain) (second_argument context p.domain) p.spec.class p.domain.entries))
-  crossing_tells context ends.Pause p h =
-      by_either Tells (is_last context p) (failed_crossing p end.Pause fail.TooManyCrossings) (goes_on p end.Pause) (λ a k. absurd cc) (λ a k. absurd cc)
-  crossing_tells context (ends.Reply status) p h =
-      by_either Tells (context == 16) (shadow_replied status p) (call_replied status p (call_of_thread context p.log.pending)) (shadow_tells status p)
-      (call_tells status p (call_of_thread context p.log.pending) (λ x e. found_op context p.log.pending x h e))
+  crossing_reports context (ends.Trap cause) p h = λ a k. absurd cc
+  crossing_reports context (ends.Kcall number) p h =
+      by_either Reports (is_last context p) (failed_crossing p (refused_service number context p) fail.TooManyCrossings) (kernel_call number context p) (λ a k. absurd cc)
+      (serve_reports number context p (checked number (first_argument context p.domain) (second_argument context p.domain) p.spec.class p.domain.entries))
+  crossing_reports context ends.Pause p h =
+      by_either Reports (is_last context p) (failed_crossing p end.Pause fail.TooManyCrossings) (goes_on p end.Pause) (λ a k. absurd cc) (λ a k. absurd cc)
+  crossing_reports context (ends.Reply status) p h =
+      by_either Reports (context == 16) (shadow_replied status p) (call_replied status p (call_of_thread context p.log.pending)) (shadow_reports status p)
+      (call_reports status p (call_of_thread context p.log.pending) (λ x e. found_op context p.log.pending x h e))
 
   closes_only : (context : ℕ) (p : PartState) (x : Crossed) → OnlyOp o p.log.pending → ClosesNone p x ⊎ ClosesCall context p x → OnlyOp o x.state.log.pending
   closes_only context p x h (inl k) = subst (OnlyOp o) (sym k.pending) h
@@ -223,7 +223,7 @@ module _ (o : Op) (disk : is_disk_op o ≡ true) where
   burst_fits p context h =
       let b = domain_burst context (faults_of_burst (p.bursts + 1) p.spec.faults) p.domain in
       let q : PartState = with_burst b.domain p in record {
-        told = one_may (served_number context p) (after_crossing context b.ending q).answer (crossing_tells context b.ending q h);
+        reported = one_may (served_number context p) (after_crossing context b.ending q).answer (crossing_reports context b.ending q h);
         only = closes_only context q (after_crossing context b.ending q) h (crossing_crosses context b.ending q).1;
       }
 
@@ -242,28 +242,28 @@ module _ (o : Op) (disk : is_disk_op o ≡ true) where
 
   stop_fits : (p : PartState) (b : Bool) → OnlyOp o p.log.pending → Fits o (if b then gives_up_part p else stops p)
   unfolding gives_up_part stops
-  stop_fits p true h = record { told = gone_may p.failures p.log.pending; only = tt }
+  stop_fits p true h = record { reported = gone_may p.failures p.log.pending; only = tt }
   stop_fits p false h = record {
-    told = stop_may p.log.pending p.log.config p.log.holder p.queue h;
+    reported = stop_may p.log.pending p.log.config p.log.holder p.queue h;
     only = mapped_only held_call (filter (λ c. is_held c.op) p.log.pending) (λ c. refl) (filtered_only (λ c. is_held c.op) p.log.pending h);
   }
 
   stage_fits : (s : Stage) (p : PartState) → OnlyOp o p.log.pending → Fits o (stage_done s p)
   unfolding collects resets loads_image inits replays_set replays_open resumes
   stage_fits stage.Stop p h = stop_fits p (is_given_up p) h
-  stage_fits stage.Collect p h = record { told = tt; only = h }
-  stage_fits stage.Reset p h = record { told = tt; only = h }
-  stage_fits stage.Load p h = record { told = tt; only = h }
-  stage_fits stage.Init p h = record { told = tt; only = h }
-  stage_fits (stage.ReplaySet key value) p h = record { told = tt; only = h }
-  stage_fits stage.ReplayOpen p h = record { told = tt; only = h }
-  stage_fits stage.Resume p h = record { told = tt; only = h }
+  stage_fits stage.Collect p h = record { reported = tt; only = h }
+  stage_fits stage.Reset p h = record { reported = tt; only = h }
+  stage_fits stage.Load p h = record { reported = tt; only = h }
+  stage_fits stage.Init p h = record { reported = tt; only = h }
+  stage_fits (stage.ReplaySet key value) p h = record { reported = tt; only = h }
+  stage_fits stage.ReplayOpen p h = record { reported = tt; only = h }
+  stage_fits stage.Resume p h = record { reported = tt; only = h }
 
   stage_by_fits : (p : PartState) (s : Option Stage) → OnlyOp o p.log.pending → Fits o (stage_by p s)
-  stage_by_fits p None h = record { told = tt; only = h }
+  stage_by_fits p None h = record { reported = tt; only = h }
   stage_by_fits p (Some s) h = stage_fits s p h
 
-  -- ---- any step that is no invocation, and runs of such
+  -- ---- any step that is not an invocation, and runs of such steps
 
   invokes_not : (p : PartState) (t : ℕ) (q : Op) (r : Option Answer) → IsOther (invoked_by p t q r).event → ⊥
   invokes_not p t q None k = k
@@ -284,9 +284,9 @@ module _ (o : Op) (disk : is_disk_op o ≡ true) where
   others_fit (e ∷ events) p h others r =
       let k : Fits o (stepped p (step_of e)) = step_fits p (step_of e) h (subst IsOther (sym r.1) others.0) in
       let rest = others_fit events (state_after p (step_of e)) k.only others.1 r.2 in
-      ((subst (λ (x : Event). AllMay o (answers_of x)) r.1 k.told, rest.0), rest.1)
+      ((subst (λ (x : Event). AllMay o (answers_of x)) r.1 k.reported, rest.0), rest.1)
 
-  -- only such a call stays open behind events that invoke nothing
+  -- after events that invoke nothing, only this operation is still open
   pub others_only : (events : List Event) (p : PartState) → OnlyOp o p.log.pending → AllByRecursion IsOther events → IsRunFrom p events
       → OnlyOp o (state_from p events).log.pending
   others_only events p h others r = (others_fit events p h others r).1
@@ -309,7 +309,7 @@ module _ (o : Op) (disk : is_disk_op o ≡ true) where
       by_first None q k later = later k
       by_first (Some b) q same later = subst (λ (y : Answer). MayAnswer y o) (some_same b a same) (among_may call (answers_of e) b h.0 q)
 
--- a call that passed the static check is answered so
+-- a call that passed the static check gets one of these answers
 pub called_may : (spec : PartSpec) (old new : DeskView) (call : ℕ) (o : Op) → is_disk_op o ≡ true → spec.class ≡ Block → IsRun spec new.seen
     → (state_of spec old.seen).log.pending ≡ [] → (c : IsCalled old new call o) → static_check Block spec.blocks o ≡ None → (a : Answer)
     → first_answer call (event.Invoke call 0 o c.answer ∷ c.tail) ≡ Some a → MayAnswer a o
@@ -322,4 +322,4 @@ called_may spec old new call o disk class run none c check a h =
     ap (λ (s : PartSpec). static_check s.class s.blocks o) (run_spec spec old.seen parts.0) ∙ ap (λ (k : Class). static_check k spec.blocks o) class ∙ check in
     let k : Fits o (stepped p (step.Invoke 0 o)) = invoked_fits o disk p 0 (subst (OnlyOp o) (sym none) tt) passes in
     let rest = others_fit o disk c.tail (state_after p (step.Invoke 0 o)) k.only c.others parts.1.2 in
-    first_may o disk call (first ∷ c.tail) a (subst (λ (x : Event). AllMay o (answers_of x)) parts.1.1 k.told, rest.0) h
+    first_may o disk call (first ∷ c.tail) a (subst (λ (x : Event). AllMay o (answers_of x)) parts.1.1 k.reported, rest.0) h

@@ -1,4 +1,4 @@
--- What a call adds to what the one seat of a side has seen.
+-- What a call adds to what a side's only seat has seen.
 use Rattle.std.proofs.Common.{◌≡◌, ℕ, zero, suc, ◌+◌, ◌<◌, ◌≤◌, Bool, Option, Some, List, [], ◌∷◌, ◌++◌, length, drop, slice_get, subst, sym, refl, ap, ◌∙◌, arith, append-nil, length-append}
 use Rattle.std.proofs.Math.Seq.{drop-append_seam}
 use Rattle.std.proofs.lemmas.List.Elements.{All-contains, All-from_recursion}
@@ -10,8 +10,8 @@ use Rattle.nook_data.specs.declared.steps.Event.{Event}
 use Rattle.nook_data.specs.declared.steps.Event.TheVariants as event
 use Rattle.nook_data.specs.declared.calls.Op.{Op}
 use Rattle.nook_data.specs.declared.scenario.PartSpec.{PartSpec}
-use Rattle.nook_data.specs.Places.{at_number}
-use Rattle.part_laws.proofs.Places.{get_mid, some_same}
+use Rattle.nook_data.specs.Numbered.{at_number}
+use Rattle.part_laws.proofs.Indices.{get_mid, some_same}
 use Rattle.shares.specs.Shares.{Share}
 use Rattle.desk_like.specs.Desks.{AddsNothing, DeskView, Invokes, IsAlone, IsAt, IsInvoke, IsOther, IsRisingFrom}
 use Rattle.mirror_block.specs.Sides.{IsSide, KnowsSame, gained}
@@ -28,7 +28,7 @@ same_as old new e = record {
   share = ap (λ (v : DeskView). v.share) e;
 }
 
--- what a seat would know at its own time
+-- a seat's view with other events and another share, but with its own stamps and clock
 abbrev view : DeskView → List Event → List ℕ → Share → DeskView
 view v seen made share = record v { seen = seen; made = made; share = share }
 
@@ -51,37 +51,37 @@ same_side spec n b old new k s =
       idle = t.idle;
     }
 
--- ---- places
+-- ---- event numbers
 
-place_is : (n k : ℕ) (xs : List Event) → n ≡ k → slice_get xs n ≡ slice_get xs k
-place_is n k xs e = ap (λ (m : ℕ). slice_get xs m) e
+position_is : (n k : ℕ) (xs : List Event) → n ≡ k → slice_get xs n ≡ slice_get xs k
+position_is n k xs e = ap (λ (m : ℕ). slice_get xs m) e
 
--- a place behind a list holds what stands behind it
-pub place_behind : (xs ys : List Event) (i : ℕ) → slice_get (xs ++ ys) (length xs + i) ≡ slice_get ys i
-place_behind [] ys i = place_is (0 + i) i ys (omega arith)
-place_behind (x ∷ xs) ys i = place_is (suc (length xs) + i) (suc (length xs + i)) (x ∷ xs ++ ys) (omega arith) ∙ place_behind xs ys i
+-- past the end of a list, an index finds the items of the list that follows
+pub position_after : (xs ys : List Event) (i : ℕ) → slice_get (xs ++ ys) (length xs + i) ≡ slice_get ys i
+position_after [] ys i = position_is (0 + i) i ys (omega arith)
+position_after (x ∷ xs) ys i = position_is (suc (length xs) + i) (suc (length xs + i)) (x ∷ xs ++ ys) (omega arith) ∙ position_after xs ys i
 
-rising_from : (low last : ℕ) (places : List ℕ) → low ≤ last → IsRisingFrom last places → AllByRecursion (λ (q : ℕ). low ≤ q) places
+rising_from : (low last : ℕ) (indices : List ℕ) → low ≤ last → IsRisingFrom last indices → AllByRecursion (λ (q : ℕ). low ≤ q) indices
 rising_from low last [] l r = tt
-rising_from low last (place ∷ places) l r =
-    let first : last < place = r.0 in
-    (omega arith, rising_from low place places (omega arith) r.1)
+rising_from low last (index ∷ indices) l r =
+    let first : last < index = r.0 in
+    (omega arith, rising_from low index indices (omega arith) r.1)
 
--- an event stands at a place of the list
-within : (place : ℕ) (xs : List Event) (e : Event) → at_number place xs ≡ Some e → place ≤ length xs
+-- the number of an event in a list is at most the list's length
+within : (index : ℕ) (xs : List Event) (e : Event) → at_number index xs ≡ Some e → index ≤ length xs
 within zero xs e h = absurd cc
-within (suc place) xs e h = let l : place < length xs = slice_get_within xs place e h in omega arith
+within (suc index) xs e h = let l : index < length xs = slice_get_within xs index e h in omega arith
 
-all_by_place : (P : Event → Type 0) (events : List Event) → ((i : ℕ) (e : Event) → slice_get events i ≡ Some e → P e) → AllByRecursion P events
-all_by_place P [] h = tt
-all_by_place P (e ∷ events) h = (h 0 e refl, all_by_place P events (λ i x at. h (suc i) x at))
+all_by_position : (P : Event → Type 0) (events : List Event) → ((i : ℕ) (e : Event) → slice_get events i ≡ Some e → P e) → AllByRecursion P events
+all_by_position P [] h = tt
+all_by_position P (e ∷ events) h = (h 0 e refl, all_by_position P events (λ i x at. h (suc i) x at))
 
 -- ---- nothing was added
 
-none_contained : (place : ℕ) → Contains [] place → ⊥
-none_contained place c = let l = c.1 in absurd (omega arith)
+none_contained : (index : ℕ) → Contains [] index → ⊥
+none_contained index c = let l = c.1 in absurd (omega arith)
 
--- where nothing was added through the only seat, it knows the same
+-- if nothing was added through the only seat, it knows the same
 pub nothing_added : (old new : DeskView) → IsAlone old → AddsNothing old new → KnowsSame old new
 nothing_added old new alone a = record { seen = seen a.seen.0 a.seen.1; made = a.made ∙ append-nil old.made; share = a.share }
   where
@@ -93,26 +93,26 @@ nothing_added old new alone a = record { seen = seen a.seen.0 a.seen.1; made = a
 
 -- ---- a call was added
 
--- one invocation of thread 0 was added, and behind it no other invocation and no arrival
+-- one invocation of thread 0 was added, followed by no other invocation and no arrival
 pub record IsCalled (old new : DeskView) (call : ℕ) (o : Op) : Type 0 where
   pub answer : Option Answer
   pub tail : List Event
   pub seen : old.seen ++ event.Invoke call 0 o answer ∷ tail ≡ new.seen
   pub others : AllByRecursion IsOther tail
 
--- what was added through the only seat, by the place of the invocation
+-- what was added through the only seat, by the number of the invocation
 module _ (old new : DeskView) (call : ℕ) (o : Op) (at : ℕ) (alone : IsAlone old) (h : Invokes old new call 0 o at) where
-  contained : (place : ℕ) → length old.seen < place → place ≤ length new.seen → Contains (at ∷ h.others) place
-  contained place l m = h.adds.own alone place l m
+  contained : (index : ℕ) → length old.seen < index → index ≤ length new.seen → Contains (at ∷ h.others) index
+  contained index l m = h.adds.own alone index l m
 
-  -- a place that is not the invocation's holds no invocation
-  other_place : (place : ℕ) → (at ≡ place → ⊥) → Contains (at ∷ h.others) place → IsAt new.seen place IsOther
-  other_place place n c =
-      All-contains (λ (q : ℕ). IsAt new.seen q IsOther) h.others place h.rest (Contains-tail at h.others place n c)
+  -- an event whose number is not the invocation's is neither an invocation nor an arrival
+  other_position : (index : ℕ) → (at ≡ index → ⊥) → Contains (at ∷ h.others) index → IsAt new.seen index IsOther
+  other_position index n c =
+      All-contains (λ (q : ℕ). IsAt new.seen q IsOther) h.others index h.rest (Contains-tail at h.others index n c)
 
-  -- the invocation stands right behind what was seen
-  first_place : at ≡ suc (length old.seen)
-  first_place =
+  -- the invocation comes right after what was seen
+  first_position : at ≡ suc (length old.seen)
+  first_position =
       let low : length old.seen < at = h.adds.rising.0 in
       let high : at ≤ length new.seen = within at new.seen h.invoked.event h.invoked.there in
       let above : AllByRecursion (λ (q : ℕ). at ≤ q) (at ∷ h.others) = (omega arith, rising_from at at h.others (omega arith) h.adds.rising.1) in
@@ -123,16 +123,16 @@ module _ (old new : DeskView) (call : ℕ) (o : Op) (at : ℕ) (alone : IsAlone 
 
   -- the other events that were added
   later : (first : Event) (tail : List Event) → old.seen ++ first ∷ tail ≡ new.seen → AllByRecursion IsOther tail
-  later first tail e = all_by_place IsOther tail by_place
+  later first tail e = all_by_position IsOther tail by_position
     where
-      by_place : (i : ℕ) (x : Event) → slice_get tail i ≡ Some x → IsOther x
-      by_place i x there =
-          let place : ℕ = suc (length old.seen + suc i) in
-          let found : at_number place new.seen ≡ Some x =
-          ap (λ (l : List Event). at_number place l) (sym e) ∙ place_behind old.seen (first ∷ tail) (suc i) ∙ there in
-          let high : place ≤ length new.seen = within place new.seen x found in
-          let same : at ≡ suc (length old.seen) = first_place in
-          let other : IsAt new.seen place IsOther = other_place place (λ q. absurd (omega arith)) (contained place (omega arith) high) in
+      by_position : (i : ℕ) (x : Event) → slice_get tail i ≡ Some x → IsOther x
+      by_position i x there =
+          let index : ℕ = suc (length old.seen + suc i) in
+          let found : at_number index new.seen ≡ Some x =
+          ap (λ (l : List Event). at_number index l) (sym e) ∙ position_after old.seen (first ∷ tail) (suc i) ∙ there in
+          let high : index ≤ length new.seen = within index new.seen x found in
+          let same : at ≡ suc (length old.seen) = first_position in
+          let other : IsAt new.seen index IsOther = other_position index (λ q. absurd (omega arith)) (contained index (omega arith) high) in
           subst IsOther (some_same other.event x (sym other.there ∙ found)) other.is
 
   by_first : (first : Event) (tail : List Event) → old.seen ++ first ∷ tail ≡ new.seen → IsInvoke call 0 o first → AllByRecursion IsOther tail
@@ -161,7 +161,7 @@ module _ (old new : DeskView) (call : ℕ) (o : Op) (at : ℕ) (alone : IsAlone 
           absurd (omega arith)
       by_more (first ∷ tail) e =
           let found : at_number at new.seen ≡ Some first =
-          ap (λ (n : ℕ). at_number n new.seen) first_place ∙ ap (λ (l : List Event). slice_get l (length old.seen)) (sym e) ∙ get_mid old.seen tail first in
+          ap (λ (n : ℕ). at_number n new.seen) first_position ∙ ap (λ (l : List Event). slice_get l (length old.seen)) (sym e) ∙ get_mid old.seen tail first in
           let is : IsInvoke call 0 o first =
           subst (IsInvoke call 0 o) (some_same h.invoked.event first (sym h.invoked.there ∙ found)) h.invoked.is in
           by_first first tail e is (later first tail e)

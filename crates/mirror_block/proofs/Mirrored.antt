@@ -1,4 +1,4 @@
--- An operation of a mirror, by how asking its sides ends.
+-- How an operation of a mirror ends, from how asking its sides ends.
 use Rattle.std.proofs.Common.{◌≡◌, ℕ, ◌||◌, Bool, true, false, Option, Some, None, Ok, Err, is_some, List, [], ◌∷◌, drop, length, subst, sym, refl, ap, ◌∙◌, inl, inr, arith, true≢false}
 use Rattle.std.specs.Prelude.{if◌then◌else◌, option_and_then}
 use Rattle.std.proofs.lemmas.Bool.{and_parts}
@@ -21,7 +21,7 @@ use Rattle.mirror_block.specs.declared.stop.MirrorStop.TheVariants as stop
 use Rattle.mirror_block.specs.Disk.{IsShown, MayAnswer, Serves, ServesBy, ServesSaid, ShowsDevice, ShowsDisk}
 use Rattle.mirror_block.specs.Mirrors.{AreClassRuns, Ends, IsMirrorAnswer, IsDisk, IsMirror, MirrorView, SameSides, StopsAt}
 use Rattle.mirror_block.specs.Rule.{Outcome, Presence, Said, MirrorStep, after_asking, asked_next, asked_of_two, asked_unless, asks_right, first_said, is_disk_op, lacks_answer, mirror_step, says, step_asking, step_checked, mirror_step_of}
-use Rattle.mirror_block.specs.Sides.{AskBothEnds, IsAskedFor, IsCut, IsFull, IsLeftCut, IsSaid, IsServed, IsSide, KnowsSame, SaysGone, Sides, WantsMemory, answers_gained, answers_given}
+use Rattle.mirror_block.specs.Sides.{AskBothEnds, IsAskedFor, IsCut, IsFull, IsLeftCut, IsSaid, IsServed, IsSide, KnowsSame, SaysGone, Sides, NeedsMemory, answers_gained, answers_given}
 use Rattle.mirror_block.proofs.Gains.{same_as, same_side}
 use Rattle.mirror_block.proofs.Outcomes.{Changes, both_gone, both_same, outcome_serves, stayed}
 use Rattle.mirror_block.proofs.Plain.{same_device}
@@ -35,7 +35,7 @@ nothing_gained : (old new : DeskView) → KnowsSame old new → answers_gained o
 nothing_gained old new k =
     ap (λ (seen : List Event). answers_given (drop (length old.seen) seen)) k.seen ∙ ap answers_given (drop_all (length old.seen) old.seen (omega arith))
 
--- a side that was asked, or not, says what the rule takes from its answers, and leaves none
+-- whether it was asked or not, a side said what the rule takes from its answers, and no answer is left
 says_so : (spec : PartSpec) (old new : DeskView) (asked : Bool) (o : Op) (l : Option Answer) → IsSaid spec old new asked o l
     → says asked (answers_gained old new) ≡ Some (record { said = l; rest = [] })
 says_so spec old new asked o None h = ap (λ (b : Bool). says b (answers_gained old new)) h.0 ∙ ap (says false) (nothing_gained old new (same_as old new h.1))
@@ -56,7 +56,7 @@ said_unasked : (spec : PartSpec) (old new : DeskView) (asked : Bool) (o : Op) (l
 said_unasked spec old new asked o None h e = h.0
 said_unasked spec old new asked o (Some b) h e = absurd cc
 
--- a side of a mirror, with its part's own number of blocks and with the mirror's
+-- a side of a mirror, with its part's number of blocks or with the mirror's
 side_resized : (spec : PartSpec) (m n : ℕ) (b : Bool) (v : DeskView) → m ≡ n → IsSide spec m b v → IsSide spec n b v
 side_resized spec m n b v e s = subst (λ (k : ℕ). IsSide spec k b v) e s
 
@@ -79,7 +79,7 @@ said_side : (spec : PartSpec) (n : ℕ) (old new : DeskView) (asked : Bool) (o :
 said_side spec n old new asked o None s h = subst (IsSide spec n false) (sym h.1) s
 said_side spec n old new asked o (Some a) s h = side_resized spec spec.blocks n false new s.size h.3
 
--- where each answer of a side would be Gone, it was asked if it was present, and answered Gone
+-- if a side can only answer Gone and was present, it was asked and answered Gone
 said_gone : (spec : PartSpec) (old new : DeskView) (asked present : Bool) (o : Op) (l : Option Answer) → static_check Block spec.blocks o ≡ None
     → IsSaid spec old new asked o l → (present ≡ true → asked ≡ true) → ((a : Answer) → l ≡ Some a → MayAnswer a o → (failures : ℕ) × (a ≡ answered.Gone failures))
     → SaysGone present (answers_gained old new)
@@ -101,7 +101,7 @@ class_run_of : (size : ℕ) (seen : List Event) (d : Ideal) → ShowsDevice size
 unfolding class_run
 class_run_of size seen d h = ap is_some h
 
--- where what a side has seen is a run of the never-failing disk, so is what it had seen before
+-- if what a side has seen is a run of the never-failing disk, so is what it had seen before
 said_earlier : (spec : PartSpec) (n : ℕ) (old new : DeskView) (asked : Bool) (o : Op) (l : Option Answer) → spec.blocks ≡ n → IsSaid spec old new asked o l
     → IsClassRun Block n (trace new.seen) → IsClassRun Block n (trace old.seen)
 said_earlier spec n old new asked o None e h r = subst (λ (v : DeskView). IsClassRun Block n (trace v.seen)) h.1 r
@@ -111,7 +111,7 @@ said_earlier spec n old new asked o (Some a) e h r =
     let k = shown.continues d.0 d.1 in
     class_run_of n old.seen k.0 k.1
 
--- how the disk of a side is changed
+-- how the disk of a side changes
 said_changes : (spec : PartSpec) (n : ℕ) (old new : DeskView) (asked : Bool) (o : Op) (l : Option Answer) → spec.blocks ≡ n → static_check Block n o ≡ None
     → IsSaid spec old new asked o l → (disk after : Disk) → ShowsDisk n old.seen disk → ShowsDisk n new.seen after → Changes disk after o l
 said_changes spec n old new asked o None e check h disk after was is =
@@ -122,7 +122,7 @@ said_changes spec n old new asked o (Some a) e check h disk after was is =
     let shown : IsShown n old.seen new.seen o a = subst (λ (k : ℕ). IsShown k old.seen new.seen o a) e h.4 in
     shown.serves check disk after was is
 
--- so it serves the operation where it was asked
+-- so it serves the operation if it was asked
 said_serves : (spec : PartSpec) (n : ℕ) (old new : DeskView) (asked : Bool) (o : Op) (l : Option Answer) → spec.blocks ≡ n → static_check Block n o ≡ None
     → IsSaid spec old new asked o l → (disk after : Disk) → ShowsDisk n old.seen disk → ShowsDisk n new.seen after → (a : Answer) → l ≡ Some a → ServesSaid disk o a after
 said_serves spec n old new asked o l e check h disk after was is a f = subst (Changes disk after o) f (said_changes spec n old new asked o l e check h disk after was is)
@@ -193,7 +193,7 @@ module _ {D : Type 0} (spec : D → PartSpec) (m : MirrorView D) (o : Op) (ln rn
         (said_unasked (spec m.right_desk) m.right rn (asks_right m.present o l) o r hr)
         some)
 
-    -- both are lost only where each side that was present answered Gone
+    -- both are lost only if each side that was present answered Gone
     lost : out.answer ≡ mirror_answer.BothLost → SaysGone m.present.left (answers_gained m.left ln) × SaysGone m.present.right (answers_gained m.right rn)
     lost e =
         let k = both_gone m.present o l r disk_op e in
@@ -218,7 +218,7 @@ module _ {D : Type 0} (spec : D → PartSpec) (m : MirrorView D) (o : Op) (ln rn
       serves = serves;
     }
 
-    -- a device for each side that stays shows the disk
+    -- for each side that stays, a device shows the disk
     one_disk : (sl sr : Bool) → out.present.left ≡ sl → out.present.right ≡ sr → AreClassRuns (after out.present false) → (disk : Disk) × IsDisk (after out.present false) disk
     one_disk false false el er runs = ([], record { left = λ h. absurd cc; right = λ h. absurd cc })
     one_disk true false el er runs =
@@ -249,12 +249,12 @@ module _ {D : Type 0} (spec : D → PartSpec) (m : MirrorView D) (o : Op) (ln rn
       one_disk = λ e runs. one_disk out.present.left out.present.right refl refl runs;
     }
 
-  -- ---- a side that was cut off
+  -- ---- a side that was interrupted
 
   keeps_stopped : IsSide (spec m.left_desk) m.blocks true ln → IsSide (spec m.right_desk) m.blocks true rn → IsMirror spec (after m.present true)
   keeps_stopped left right = record { left = left; right = right; one_disk = λ e. absurd cc }
 
-  -- nobody has answered that was asked
+  -- the static check passed, so the sides are asked
   asked_is : (lefts rights : List Answer) → asked_next m.blocks m.present o lefts rights ≡ asked_of_two m.present o lefts rights
   asked_is lefts rights = ap (λ (c : Option Answer). asked_unless (is_some c) (asked_of_two m.present o lefts rights)) checked
 
@@ -285,9 +285,9 @@ module _ {D : Type 0} (spec : D → PartSpec) (m : MirrorView D) (o : Op) (ln rn
       ∙ ap (λ (b : Bool). if lacks_answer b rights then Some 1 else None) there
       ∙ ap (λ (xs : List Answer). if lacks_answer true xs then Some 1 else None) none
 
-  wants_nothing : (old new : DeskView) → WantsMemory old new o → answers_gained old new ≡ []
-  wants_nothing old new (inl e) = nothing_gained old new e
-  wants_nothing old new (inr h) = h.1
+  needs_nothing : (old new : DeskView) → NeedsMemory old new o → answers_gained old new ≡ []
+  needs_nothing old new (inl e) = nothing_gained old new e
+  needs_nothing old new (inr h) = h.1
 
   stops_left : (Cut : DeskView → DeskView → Op → Type 0) → m.present.left ≡ true → answers_gained m.left ln ≡ [] → Cut m.left ln o → rn ≡ m.right
       → StopsAt m (after m.present true) o 0 Cut
@@ -322,8 +322,8 @@ module _ {D : Type 0} (spec : D → PartSpec) (m : MirrorView D) (o : Op) (ln rn
   left_cut : (why : MirrorStop) → IsLeftCut sides m.present o why → Ends m (after m.present true) o (Err why) × IsMirror spec (after m.present true)
   left_cut (stop.NoMemory None) h = absurd h.0
   left_cut (stop.NoMemory (Some side)) h = (
-    subst (λ (s : ℕ). StopsAt m (after m.present true) o s WantsMemory) (sym h.0.1)
-        (stops_left WantsMemory h.0.0 (wants_nothing m.left ln h.0.2) h.0.2 h.1),
+    subst (λ (s : ℕ). StopsAt m (after m.present true) o s NeedsMemory) (sym h.0.1)
+        (stops_left NeedsMemory h.0.0 (needs_nothing m.left ln h.0.2) h.0.2 h.1),
     keeps_stopped (side_resized (spec m.left_desk) (spec m.left_desk).blocks m.blocks true ln mirror.left.size h.0.3)
         (subst (IsSide (spec m.right_desk) m.blocks true) (sym h.1) right_kept),
   )
@@ -335,21 +335,21 @@ module _ {D : Type 0} (spec : D → PartSpec) (m : MirrorView D) (o : Op) (ln rn
   )
   left_cut stop.Stopped h = absurd h.0
 
-  left_behind : (l : Option Answer) → IsSaid (spec m.left_desk) m.left ln m.present.left o l → IsSide (spec m.left_desk) m.blocks true ln
-  left_behind l h = side_stopped (spec m.left_desk) m.blocks false ln (said_side (spec m.left_desk) m.blocks m.left ln m.present.left o l left_going h)
+  left_following : (l : Option Answer) → IsSaid (spec m.left_desk) m.left ln m.present.left o l → IsSide (spec m.left_desk) m.blocks true ln
+  left_following l h = side_stopped (spec m.left_desk) m.blocks false ln (said_side (spec m.left_desk) m.blocks m.left ln m.present.left o l left_going h)
 
   right_cut : (why : MirrorStop) (l : Option Answer) → IsSaid (spec m.left_desk) m.left ln m.present.left o l → IsCut (spec m.right_desk) m.right rn 1 (asks_right m.present o l) o why
       → Ends m (after m.present true) o (Err why) × IsMirror spec (after m.present true)
   right_cut (stop.NoMemory None) l h cut = absurd cut
   right_cut (stop.NoMemory (Some side)) l h cut = (
-    subst (λ (s : ℕ). StopsAt m (after m.present true) o s WantsMemory) (sym cut.1)
-        (stops_right WantsMemory l h cut.0 (wants_nothing m.right rn cut.2) cut.2),
-    keeps_stopped (left_behind l h) (side_resized (spec m.right_desk) (spec m.right_desk).blocks m.blocks true rn mirror.right.size cut.3),
+    subst (λ (s : ℕ). StopsAt m (after m.present true) o s NeedsMemory) (sym cut.1)
+        (stops_right NeedsMemory l h cut.0 (needs_nothing m.right rn cut.2) cut.2),
+    keeps_stopped (left_following l h) (side_resized (spec m.right_desk) (spec m.right_desk).blocks m.blocks true rn mirror.right.size cut.3),
   )
   right_cut (stop.TooManyCalls side) l h cut = (
     subst (λ (s : ℕ). StopsAt m (after m.present true) o s IsFull) (sym cut.1)
         (stops_right IsFull l h cut.0 (nothing_gained m.right rn cut.2.0) cut.2),
-    keeps_stopped (left_behind l h) (same_side (spec m.right_desk) m.blocks true m.right rn cut.2.0 right_kept),
+    keeps_stopped (left_following l h) (same_side (spec m.right_desk) m.blocks true m.right rn cut.2.0 right_kept),
   )
   right_cut stop.Stopped l h cut = absurd cut
 
@@ -357,7 +357,7 @@ module _ {D : Type 0} (spec : D → PartSpec) (m : MirrorView D) (o : Op) (ln rn
   cut_ends why (inl h) = left_cut why h
   cut_ends why (inr h) = right_cut why h.left h.left_said h.right_cut
 
--- ---- the same of a mirror by its fields
+-- ---- the same for a mirror that is given by its fields
 
 abbrev pub mirror_of : {D : Type 0} → D → D → DeskView → DeskView → Bool → Bool → ℕ → Bool → MirrorView D
 mirror_of left_desk right_desk left right here there blocks stopped = record {

@@ -1,4 +1,4 @@
--- What holds of a mirror of which nothing was asked yet.
+-- What holds for a mirror that was not asked anything yet.
 use Rattle.std.proofs.Common.{◌≡◌, ℕ, false, List, [], subst, sym, refl, ap, ◌∙◌}
 use Rattle.std.specs.List.{list_all}
 use Rattle.nook_data.specs.declared.classes.Class.TheVariants.{Block}
@@ -10,10 +10,10 @@ use Rattle.part_defs.specs.Runs.{IsRun, IsRunFrom, state_from, state_of}
 use Rattle.part_defs.specs.Steps.{opening}
 use Rattle.promise_defs.specs.Trace.{trace, trace_from}
 use Rattle.desk_like.specs.Desks.{DeskView}
-use Rattle.mirror_block.specs.Disk.{IsIdleBehind, ShowsDevice, ShowsDisk, is_over}
+use Rattle.mirror_block.specs.Disk.{IsIdleAfter, ShowsDevice, ShowsDisk, is_over}
 use Rattle.mirror_block.specs.Mirrors.{IsMirror, new_mirror}
 use Rattle.mirror_block.specs.Sides.{IsNewSide, IsSide}
-use Rattle.part_laws.proofs.Places.{some_same}
+use Rattle.part_laws.proofs.Indices.{some_same}
 
 empty_run : (spec : PartSpec) → IsRun spec []
 unfolding IsRunFrom
@@ -27,7 +27,7 @@ shows_at_first : (size : ℕ) → ShowsDevice size [] (never_failing Block size)
 unfolding ran trace trace_from
 shows_at_first size = refl
 
-idle_at_first : (size : ℕ) → IsIdleBehind size []
+idle_at_first : (size : ℕ) → IsIdleAfter size []
 idle_at_first size device h =
     let same : never_failing Block size ≡ device = some_same (never_failing Block size) device (sym (shows_at_first size) ∙ h) in
     ap (λ (d : Ideal). list_all is_over d.opened) (sym same)
@@ -40,7 +40,7 @@ new_side spec size v n = record {
   accounts = n.accounts;
   run = subst (IsRun spec) (sym n.seen) (empty_run spec);
   none_open = λ e. ap (λ (l : List Event). (state_of spec l).log.pending) n.seen ∙ none_open_at_first spec;
-  idle = λ e. subst (IsIdleBehind size) (sym n.seen) (idle_at_first size);
+  idle = λ e. subst (IsIdleAfter size) (sym n.seen) (idle_at_first size);
 }
 
 blank : (size : ℕ) (seen : List Event) → seen ≡ [] → ShowsDisk size seen (never_failing Block size).blocks

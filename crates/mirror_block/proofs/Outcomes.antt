@@ -1,4 +1,4 @@
--- The rule's outcome, by what both sides said: who stays, and that the answer is one that the disk of a side gives.
+-- The rule's outcome from what both sides said: who stays, and that the disk of one of the sides gives the answer.
 use Rattle.std.proofs.Common.{◌≡◌, ℕ, ◌&&◌, ◌||◌, not, Bool, true, false, Option, Some, None, is_some, List, subst, sym, refl, ap, ◌∙◌, true≢false, inl, inr, ◌⊎◌}
 use Rattle.std.specs.Prelude.{if◌then◌else◌, option_and_then}
 use Rattle.nook_data.specs.declared.calls.Answer.{Answer}
@@ -9,14 +9,14 @@ use Rattle.nook_data.specs.declared.calls.Op.TheVariants.{Read, Write, Send, Rec
 use Rattle.nook_data.specs.Classes.{is_write, static_check}
 use Rattle.nook_data.specs.declared.classes.Class.TheVariants.{Block}
 use Rattle.nook_data.specs.declared.mirror.MirrorAnswer.{MirrorAnswer}
-use Rattle.part_laws.proofs.Places.{some_same}
+use Rattle.part_laws.proofs.Indices.{some_same}
 use Rattle.mirror_block.specs.Disk.{MayAnswer, ServesChecked, ServesSaid}
 use Rattle.mirror_block.specs.Rule.{Outcome, Presence, Said, MirrorStep, after_asking, after_failed_write, after_read, after_write, asks_right, failed_block, failed_read, is_disk_op, is_done, mirror_step, outcome, read_answer, refusal_of, says, stays_after_read, step_checked, step_refused, mirror_step_of, words_read}
 
 abbrev Blocks : Type 0
 Blocks = List (List ℕ)
 
--- ---- what a test of a side's words tells
+-- ---- what the tests of a side's answer show
 
 done_is : (l : Option Answer) → is_done l ≡ true → l ≡ Some answered.Done
 done_is None h = absurd cc
@@ -33,7 +33,7 @@ failed_at None block h = absurd cc
 failed_at (Some (answered.IoError own)) block h = cc
 failed_at (Some a) block h = absurd cc
 
--- a side that was asked and gave neither blocks nor the block that failed goes after a Read
+-- a side does not stay after a Read if it was asked and gave neither blocks nor the block that failed
 goes_after_read : (present : Bool) (l : Option Answer) → words_read l ≡ None → failed_block l ≡ None → (l ≡ None → present ≡ false) → stays_after_read present l ≡ false
 goes_after_read present None w f h = h refl
 goes_after_read present (Some (answered.Blocks words)) w f h = absurd cc
@@ -42,7 +42,7 @@ goes_after_read present (Some a) w f h = refl
 
 -- ---- the answer is one that a side's disk gives
 
--- a side's disk serves the operation so, where it stays
+-- if a side stays, its disk serves the operation with what the side said
 abbrev pub Serving : Blocks → Blocks → Op → Option Answer → Bool → Type 0
 Serving disk after o said stays = (a : Answer) → said ≡ Some a → stays ≡ true → ServesSaid disk o a after
 
@@ -77,7 +77,7 @@ read_serves disk after o present l r None None el er None None gl gr L R hl hr s
     let b = goes_after_read present.right r er gr (hr el) in
     absurd (true≢false (sym some ∙ ap (λ (x : Bool). x || stays_after_read present.right r) a ∙ b))
 
--- where the right side was not asked in a Read although the left gave no blocks, it was not present
+-- if a Read did not ask the right side although the left gave no blocks, the right side was not present
 unasked : (present : Presence) (first count : ℕ) (l : Option Answer) → asks_right present (Read first count) l ≡ false → words_read l ≡ None → present.right ≡ false
 unasked present first count l h w = by_right present.right (sym (ap (λ (o : Option (List ℕ)). present.right && (false || not (is_some o))) w) ∙ h)
   where
@@ -85,7 +85,7 @@ unasked present first count l h w = by_right present.right (sym (ap (λ (o : Opt
     by_right false h = refl
     by_right true h = absurd cc
 
--- the answer of an operation is one that the disk of a side that stays gives
+-- the disk of a side that stays gives the answer to the operation
 pub outcome_serves : (disk after : Blocks) (present : Presence) (o : Op) (l r : Option Answer) → is_disk_op o ≡ true
     → Serving disk after o l (after_asking present o l r).present.left → Serving disk after o r (after_asking present o l r).present.right
     → (l ≡ None → present.left ≡ false) → (r ≡ None → asks_right present o l ≡ false)
@@ -104,7 +104,7 @@ outcome_serves disk after present Close l r d L R hl hr some = absurd cc
 outcome_serves disk after present (Get key) l r d L R hl hr some = absurd cc
 outcome_serves disk after present (Set key value) l r d L R hl hr some = absurd cc
 
--- ---- where both sides stay, both have the same disk
+-- ---- if both sides stay, both have the same disk
 
 both_did : (dl dr : Bool) (fl fr : Option ℕ) → (if dl || dr then outcome dl dr mirror.Done else after_failed_write fl fr).present.left ≡ true
     → (if dl || dr then outcome dl dr mirror.Done else after_failed_write fl fr).present.right ≡ true → (dl ≡ true) × (dr ≡ true)
@@ -115,7 +115,7 @@ both_did false false (Some block) fr h k = absurd cc
 both_did false false None (Some block) h k = absurd cc
 both_did false false None None h k = absurd cc
 
--- a side's disk after an operation: as it was where the side was not asked, else as it serves it
+-- a side's disk after an operation: unchanged if the side was not asked, otherwise as it serves the operation
 abbrev pub Changes : Blocks → Blocks → Op → Option Answer → Type 0
 Changes disk after o None = after ≡ disk
 Changes disk after o (Some a) = ServesSaid disk o a after
@@ -172,7 +172,7 @@ stayed present Close l r d L R = absurd cc
 stayed present (Get key) l r d L R = absurd cc
 stayed present (Set key value) l r d L R = absurd cc
 
--- ---- where no side stays the answer is BothLost
+-- ---- if no side stays, the answer is BothLost
 
 or_true : (b : Bool) → (b || true) ≡ true
 or_true true = refl
@@ -208,7 +208,7 @@ asking_left present o l r = by_op (is_write o)
     by_op true = write_left (is_done l) (is_done r) (failed_block l) (failed_block r)
     by_op false = read_left present l r (words_read l) (words_read r) refl refl (failed_block l) (failed_block r) refl refl
 
--- a side stays where the answer is not BothLost and a side was present before
+-- a side stays if the answer is not BothLost and a side was present before
 abbrev KeepsSide : Presence → MirrorStep → Type 0
 KeepsSide present s =
     (s.outcome.answer ≡ mirror.BothLost → ⊥) → (present.left || present.right) ≡ true → (s.outcome.present.left || s.outcome.present.right) ≡ true
@@ -250,7 +250,7 @@ mirror_keeps n present Close lefts rights s h = absurd cc
 mirror_keeps n present (Get key) lefts rights s h = absurd cc
 mirror_keeps n present (Set key value) lefts rights s h = absurd cc
 
--- ---- where no side is left
+-- ---- if no side is left
 
 gone_write : (a : Answer) (first : ℕ) (words : List ℕ) → MayAnswer a (Write first words) → is_done (Some a) ≡ false → failed_block (Some a) ≡ None
     → (failures : ℕ) × (a ≡ answered.Gone failures)

@@ -22,14 +22,14 @@ use Rattle.promise_defs.specs.Ideal.{Ideal, Opened, after_answer, is_due, may_an
 use Rattle.promise_defs.specs.Ideal.{never_failing, play_of, ran, shows, when}
 use Rattle.promise_defs.proofs.PromiseCases.{answers, closes}
 use Rattle.promise_defs.proofs.PromiseChanges.{opens, stops_waiting}
-use Rattle.nook_data.specs.Places.{at_number}
+use Rattle.nook_data.specs.Numbered.{at_number}
 use Rattle.nook_data.specs.Answers.{one_answer}
 use Rattle.nook_data.specs.Answers.{answer_among, answer_at}
 use Rattle.promise_defs.specs.Trace.{Track, Visible, called, wire, sample, arrived, answer, shown, shown_acts}
 use Rattle.promise_defs.specs.Trace.{shown_answers, shown_option, trace, trace_from, tracks_after}
-use Rattle.part_laws.proofs.Places.{change_at, get_mid, get_push, set_mid, some_same}
+use Rattle.part_laws.proofs.Indices.{change_at, get_mid, get_push, set_mid, some_same}
 use Rattle.desk_like.specs.Desks.{DeskView, IsOther}
-use Rattle.mirror_block.specs.Disk.{IsIdleBehind, IsShown, ServesSaid, ShowsDevice, is_over}
+use Rattle.mirror_block.specs.Disk.{IsIdleAfter, IsShown, ServesSaid, ShowsDevice, is_over}
 use Rattle.mirror_block.specs.Rule.{is_disk_op}
 use Rattle.mirror_block.specs.Sides.{first_answer, or_later}
 use Rattle.mirror_block.proofs.Gains.{IsCalled}
@@ -61,22 +61,22 @@ ran_parts m (v ∷ xs) ys n h =
     let rest = ran_parts k.0 xs ys n k.2 in
     (rest.0, ap (option_and_then (λ after. ran after xs)) k.1 ∙ rest.1, rest.2)
 
-tracks_behind : List Track → List Event → List Track
-tracks_behind ts [] = ts
-tracks_behind ts (e ∷ events) = tracks_behind (tracks_after e ts) events
+tracks_following : List Track → List Event → List Track
+tracks_following ts [] = ts
+tracks_following ts (e ∷ events) = tracks_following (tracks_after e ts) events
 
 append_parts : (xs ys zs : List Visible) → (xs ++ ys) ++ zs ≡ xs ++ (ys ++ zs)
 append_parts [] ys zs = refl
 append_parts (x ∷ xs) ys zs = ap (λ (l : List Visible). x ∷ l) (append_parts xs ys zs)
 
-trace_parts : (ts : List Track) (xs ys : List Event) → trace_from ts (xs ++ ys) ≡ trace_from ts xs ++ trace_from (tracks_behind ts xs) ys
-unfolding trace_from tracks_behind
+trace_parts : (ts : List Track) (xs ys : List Event) → trace_from ts (xs ++ ys) ≡ trace_from ts xs ++ trace_from (tracks_following ts xs) ys
+unfolding trace_from tracks_following
 trace_parts ts [] ys = refl
 trace_parts ts (e ∷ xs) ys =
     ap (λ (l : List Visible). shown e (tracks_after e ts) ++ l) (trace_parts (tracks_after e ts) xs ys)
-    ∙ sym (append_parts (shown e (tracks_after e ts)) (trace_from (tracks_after e ts) xs) (trace_from (tracks_behind (tracks_after e ts) xs) ys))
+    ∙ sym (append_parts (shown e (tracks_after e ts)) (trace_from (tracks_after e ts) xs) (trace_from (tracks_following (tracks_after e ts) xs) ys))
 
--- a run of a longer list leads there from where its beginning leads
+-- a run of a longer list continues from the device to which its prefix leads
 record Continues (size : ℕ) (xs ys : List Event) (device : Ideal) : Type 0 where
   tracks : List Track
   between : Ideal
@@ -86,9 +86,9 @@ record Continues (size : ℕ) (xs ys : List Event) (device : Ideal) : Type 0 whe
 continues : (size : ℕ) (xs ys : List Event) (device : Ideal) → ShowsDevice size (xs ++ ys) device → Continues size xs ys device
 unfolding trace
 continues size xs ys device h =
-    let k = ran_parts (never_failing Block size) (trace_from [] xs) (trace_from (tracks_behind [] xs) ys) device
+    let k = ran_parts (never_failing Block size) (trace_from [] xs) (trace_from (tracks_following [] xs) ys) device
     (ap (ran (never_failing Block size)) (sym (trace_parts [] xs ys)) ∙ h) in
-    record { tracks = tracks_behind [] xs; between = k.0; shows_between = k.1; ran_on = k.2 }
+    record { tracks = tracks_following [] xs; between = k.0; shows_between = k.1; ran_on = k.2 }
 
 -- ---- the device keeps its class and its size
 
@@ -101,7 +101,7 @@ kept_same m x n c s e = (ap (λ (d : Ideal). d.class) (sym e) ∙ c, ap (λ (d :
 kept_when : (b : Bool) (m x n : Ideal) → x.class ≡ m.class → x.size ≡ m.size → when b x ≡ Some n → Kept m n
 kept_when b m x n c s h = kept_same m x n c s (when_is b x n h).1
 
--- an answer changes neither, nor which calls are open
+-- an answer changes neither the class nor the size, nor which calls are open
 after_keeps : (m : Ideal) (t : ℕ) (o : Op) (a : Answer) (stored : List ℕ) → ((after_answer m t o a stored).class ≡ m.class)
     × ((after_answer m t o a stored).size ≡ m.size) × ((after_answer m t o a stored).opened ≡ m.opened)
 after_keeps m t (Write first words) answered.Done stored = (refl, refl, refl)
@@ -112,7 +112,7 @@ after_keeps m t Close answered.Done stored = (refl, refl, refl)
 after_keeps m t (Set key value) answered.Done stored = (refl, refl, refl)
 after_keeps m t o a stored = (refl, refl, refl)
 
--- a call that is answered waits, the answer is due, and the device is the one after it
+-- the answered call was waiting, the answer was due, and the device is that after the answer
 record Answering (m n : Ideal) (c : ℕ) (a : Answer) (stored : List ℕ) : Type 0 where
   call : Opened
   there : at_number c m.opened ≡ Some call
@@ -215,7 +215,7 @@ trace_shown call ts (e ∷ events) =
     ∙ ap (λ (x : Option Answer). or_later x (first_shown call (trace_from (tracks_after e ts) events))) (event_shown call e (tracks_after e ts))
     ∙ ap (or_later (answer_at call e)) (trace_shown call (tracks_after e ts) events)
 
--- ---- what is shown behind an invocation
+-- ---- what is shown after an invocation
 
 -- neither a call nor an arrival
 abbrev IsAnswering : Visible → Type 0
@@ -267,7 +267,7 @@ number_passes : (test : Opened → Bool) (xs : List Opened) (n : ℕ) (x : Opene
 number_passes test xs zero x h at = absurd cc
 number_passes test xs (suc i) x h at = passes test xs i x h at
 
--- a disk shows nothing that is of another class
+-- a disk shows nothing that belongs to another class
 disk_shows_not : (m n x : Ideal) (other : Class) (may : Bool) → m.class ≡ Block → same_class Block other ≡ false
     → when (same_class m.class other && may) x ≡ Some n → ⊥
 disk_shows_not m n x other may disk differs h = true≢false (
@@ -284,10 +284,10 @@ sample_not m n word rate volume disk h =
     let k = found_is _ (at_number (play_of m) m.opened) n h in
     disk_shows_not m n _ Sound (may_sound word rate volume m k.0) disk refl k.2
 
--- where no call waits nothing is shown
+-- if no call waits, nothing is shown
 idle_ran : (m n : Ideal) (vs : List Visible) → m.class ≡ Block → list_all is_over m.opened ≡ true → AllByRecursion IsAnswering vs → ran m vs ≡ Some n → vs ≡ []
-idle_ran m n [] disk over told h = refl
-idle_ran m n (v ∷ vs) disk over told h = absurd (by_first v told.0 (ran_next m v vs n h))
+idle_ran m n [] disk over reported h = refl
+idle_ran m n (v ∷ vs) disk over reported h = absurd (by_first v reported.0 (ran_next m v vs n h))
   where
     by_first : (v : Visible) → IsAnswering v → (k : Ideal) × (shows m v ≡ Some k) × (ran k vs ≡ Some n) → ⊥
     by_first (called c t o) t' k = t'
@@ -327,7 +327,7 @@ serves_with m t (Get key) a stored d h = absurd cc
 serves_with m t (Set key value) a stored d h = absurd cc
 serves_with m t o a stored d h = absurd cc
 
--- an answer that is due may come, where the static check gives none
+-- an answer that is due is allowed if the static check gives none
 due_may : (m : Ideal) (o : Opened) (a : Answer) → static_check m.class m.size o.op ≡ None → is_due m o a ≡ true
     → may_answer m o.thread o.op a ≡ true
 due_may m o a e h = rw (e, is_due) at h
@@ -354,13 +354,13 @@ module _ (m : Ideal) (o : Op) (disk : m.class ≡ Block) (disk_op : is_disk_op o
   -- only the last call may be answered
   last_answered : (n : Ideal) (c : ℕ) (a : Answer) (stored : List ℕ) → (y : Answering m n c a stored) → (c ≡ suc (length w.earlier)) × (y.call ≡ w.call)
   last_answered n zero a stored y = absurd (let f = y.there in cc)
-  last_answered n (suc i) a stored y = by_place (get_push w.earlier i w.call y.call (ap (λ (xs : List Opened). slice_get xs i) (sym w.opened) ∙ y.there))
+  last_answered n (suc i) a stored y = by_position (get_push w.earlier i w.call y.call (ap (λ (xs : List Opened). slice_get xs i) (sym w.opened) ∙ y.there))
     where
-      by_place : (slice_get w.earlier i ≡ Some y.call) ⊎ ((i ≡ length w.earlier) × (y.call ≡ w.call)) → (suc i ≡ suc (length w.earlier)) × (y.call ≡ w.call)
-      by_place (inl e) =
+      by_position : (slice_get w.earlier i ≡ Some y.call) ⊎ ((i ≡ length w.earlier) × (y.call ≡ w.call)) → (suc i ≡ suc (length w.earlier)) × (y.call ≡ w.call)
+      by_position (inl e) =
           let over' : not y.call.waits ≡ true = passes is_over w.earlier i y.call w.over e in
           absurd (true≢false (sym (sym (ap not y.waits) ∙ over')))
-      by_place (inr e) = (ap suc e.0, e.1)
+      by_position (inr e) = (ap suc e.0, e.1)
 
   closed : (n : Ideal) → n.opened ≡ (closes (suc (length w.earlier)) m).opened → list_all is_over n.opened ≡ true
   closed n e =
@@ -373,8 +373,8 @@ module _ (m : Ideal) (o : Op) (disk : m.class ≡ Block) (disk_op : is_disk_op o
 
   -- nothing is shown, or the answer of the call
   waiting_ran : (n : Ideal) (vs : List Visible) → AllByRecursion IsAnswering vs → ran m vs ≡ Some n → (vs ≡ []) ⊎ Shows m n o (suc (length w.earlier)) vs
-  waiting_ran n [] told h = inl refl
-  waiting_ran n (v ∷ vs) told h = by_first v told.0 (ran_next m v vs n h)
+  waiting_ran n [] reported h = inl refl
+  waiting_ran n (v ∷ vs) reported h = by_first v reported.0 (ran_next m v vs n h)
     where
       by_first : (v : Visible) → IsAnswering v → (k : Ideal) × (shows m v ≡ Some k) × (ran k vs ≡ Some n) → (v ∷ vs ≡ []) ⊎ Shows m n o (suc (length w.earlier)) (v ∷ vs)
       by_first (called c t p) t' k = absurd t'
@@ -390,7 +390,7 @@ module _ (m : Ideal) (o : Op) (disk : m.class ≡ Block) (disk_op : is_disk_op o
           ap (λ (x : Ideal). x.opened) (sym y.after) ∙ (after_keeps (closes c m) y.call.thread y.call.op a stored).2
           ∙ ap (λ (j : ℕ). (closes j m).opened) l.0
           ) in
-          let rest : vs ≡ [] = idle_ran k.0 n vs disk' over' told.1 k.2 in
+          let rest : vs ≡ [] = idle_ran k.0 n vs disk' over' reported.1 k.2 in
           let end : k.0 ≡ n = ran_none k.0 n (ap (ran k.0) (sym rest) ∙ k.2) in
           inr (record {
             a = a;
@@ -405,7 +405,7 @@ module _ (m : Ideal) (o : Op) (disk : m.class ≡ Block) (disk_op : is_disk_op o
 
 -- ---- one call on a side
 
--- the device of a side whose seat saw one call more, which was answered so
+-- the device of a side whose seat saw one more call, with this answer
 pub record IsServedBy (size : ℕ) (old new : DeskView) (o : Op) (a : Answer) (device : Ideal) : Type 0 where
   pub over : list_all is_over device.opened ≡ true
   pub before : Ideal
@@ -413,7 +413,7 @@ pub record IsServedBy (size : ℕ) (old new : DeskView) (o : Op) (a : Answer) (d
   pub serves : static_check Block size o ≡ None → ServesSaid before.blocks o a device.blocks
 
 module _ (size : ℕ) (old new : DeskView) (call : ℕ) (o : Op) (disk_op : is_disk_op o ≡ true) (c : IsCalled old new call o) (a : Answer)
-    (given : first_answer call (event.Invoke call 0 o c.answer ∷ c.tail) ≡ Some a) (idle : IsIdleBehind size old.seen)
+    (given : first_answer call (event.Invoke call 0 o c.answer ∷ c.tail) ≡ Some a) (idle : IsIdleAfter size old.seen)
     (device : Ideal) (shows_device : ShowsDevice size new.seen device) where
   abbrev first : Event
   first = event.Invoke call 0 o c.answer
@@ -424,19 +424,19 @@ module _ (size : ℕ) (old new : DeskView) (call : ℕ) (o : Op) (disk_op : is_d
   abbrev tracks : List Track
   tracks = tracks_after first goes_on.tracks
 
-  -- what is shown behind the call itself
-  abbrev behind : List Visible
-  behind = shown_option call c.answer tracks ++ trace_from tracks c.tail
+  -- what is shown after the call itself
+  abbrev rest_after : List Visible
+  rest_after = shown_option call c.answer tracks ++ trace_from tracks c.tail
 
-  trace_is : trace_from goes_on.tracks (first ∷ c.tail) ≡ called call 0 o ∷ behind
+  trace_is : trace_from goes_on.tracks (first ∷ c.tail) ≡ called call 0 o ∷ rest_after
   unfolding trace_from
   trace_is = refl
 
   abbrev made : Ideal
   made = record goes_on.between { opened = goes_on.between.opened ++ opens 0 o ∷ [] }
 
-  next : (k : Ideal) × (shows goes_on.between (called call 0 o) ≡ Some k) × (ran k behind ≡ Some device)
-  next = ran_next goes_on.between (called call 0 o) behind device (ap (ran goes_on.between) (sym trace_is) ∙ goes_on.ran_on)
+  next : (k : Ideal) × (shows goes_on.between (called call 0 o) ≡ Some k) × (ran k rest_after ≡ Some device)
+  next = ran_next goes_on.between (called call 0 o) rest_after device (ap (ran goes_on.between) (sym trace_is) ∙ goes_on.ran_on)
 
   called_so : (may_call call 0 goes_on.between.opened ≡ true) × (made ≡ next.0)
   called_so = when_is (may_call call 0 goes_on.between.opened) made next.0 next.1
@@ -447,24 +447,24 @@ module _ (size : ℕ) (old new : DeskView) (call : ℕ) (o : Op) (disk_op : is_d
   waits : Waits made o
   waits = record { earlier = goes_on.between.opened; call = opens 0 o; opened = refl; over = idle goes_on.between goes_on.shows_between; op = refl }
 
-  shown_first : first_shown call behind ≡ Some a
+  shown_first : first_shown call rest_after ≡ Some a
   shown_first = ap (first_shown call) (sym trace_is) ∙ trace_shown call goes_on.tracks (first ∷ c.tail) ∙ given
 
-  told : AllByRecursion IsAnswering behind
-  told = answering_parts (shown_option call c.answer tracks) (trace_from tracks c.tail) (option_answering call c.answer tracks) (trace_answering c.tail tracks c.others)
+  reported : AllByRecursion IsAnswering rest_after
+  reported = answering_parts (shown_option call c.answer tracks) (trace_from tracks c.tail) (option_answering call c.answer tracks) (trace_answering c.tail tracks c.others)
 
   class_kept : Kept (never_failing Block size) goes_on.between
   class_kept = kept_ran (never_failing Block size) (trace old.seen) goes_on.between goes_on.shows_between
 
   pub served_by : IsServedBy size old new o a device
   unfolding waits
-  served_by = by_shown (waiting_ran made o class_kept.0 disk_op waits device behind told (subst (λ (k : Ideal). ran k behind ≡ Some device) (sym called_so.1) next.2))
+  served_by = by_shown (waiting_ran made o class_kept.0 disk_op waits device rest_after reported (subst (λ (k : Ideal). ran k rest_after ≡ Some device) (sym called_so.1) next.2))
     where
-      by_shown : (behind ≡ []) ⊎ Shows made device o (suc (length goes_on.between.opened)) behind → IsServedBy size old new o a device
+      by_shown : (rest_after ≡ []) ⊎ Shows made device o (suc (length goes_on.between.opened)) rest_after → IsServedBy size old new o a device
       by_shown (inl e) = absurd (let f : None ≡ Some a = sym (ap (first_shown call) e) ∙ shown_first in cc)
       by_shown (inr s) =
           let own : answer_among call (one_answer call (Some s.a)) ≡ Some s.a = own_answer call (Some s.a) in
-          let shown_so : first_shown call behind ≡ or_later (answer_among call (one_answer call (Some s.a))) None =
+          let shown_so : first_shown call rest_after ≡ or_later (answer_among call (one_answer call (Some s.a))) None =
           ap (first_shown call) (s.shown_is ∙ ap (λ (j : ℕ). answer j s.a s.stored ∷ []) (sym number)) in
           let same : s.a ≡ a = some_same s.a a (sym (shown_so ∙ or_none (answer_among call (one_answer call (Some s.a))) ∙ own) ∙ shown_first) in
           record {
@@ -475,12 +475,12 @@ module _ (size : ℕ) (old new : DeskView) (call : ℕ) (o : Op) (disk_op : is_d
                 (s.serves (ap (λ (x : Class). static_check x goes_on.between.size o) class_kept.0 ∙ ap (λ (n : ℕ). static_check Block n o) class_kept.1 ∙ e));
           }
 
--- two devices that the same events show are one
+-- two devices that the same events show are equal
 pub same_device : (size : ℕ) (seen : List Event) (d e : Ideal) → ShowsDevice size seen d → ShowsDevice size seen e → d ≡ e
 same_device size seen d e h k = some_same d e (sym h ∙ k)
 
 pub call_shown : (size : ℕ) (old new : DeskView) (call : ℕ) (o : Op) → is_disk_op o ≡ true → (c : IsCalled old new call o) (a : Answer)
-    → first_answer call (event.Invoke call 0 o c.answer ∷ c.tail) ≡ Some a → IsIdleBehind size old.seen → IsShown size old.seen new.seen o a
+    → first_answer call (event.Invoke call 0 o c.answer ∷ c.tail) ≡ Some a → IsIdleAfter size old.seen → IsShown size old.seen new.seen o a
 call_shown size old new call o disk_op c a given idle = record {
   continues = λ device shows. let k = served_by size old new call o disk_op c a given idle device shows in (k.before, k.shows_before);
   serves = λ checked disk after was is.
@@ -490,8 +490,8 @@ call_shown size old new call o disk_op c a given idle = record {
       (subst (λ (d : List (List ℕ)). ServesSaid d o a is.device.blocks) (ap (λ (x : Ideal). x.blocks) same ∙ was.disk_is) (k.serves checked));
 }
 
--- where no call waits behind events, more of them without an invocation or an arrival show nothing
-pub nothing_more : (size : ℕ) (xs ys : List Event) (device : Ideal) → IsIdleBehind size xs → AllByRecursion IsOther ys → ShowsDevice size (xs ++ ys) device
+-- if no call waits after events, further events without an invocation or an arrival show nothing
+pub nothing_more : (size : ℕ) (xs ys : List Event) (device : Ideal) → IsIdleAfter size xs → AllByRecursion IsOther ys → ShowsDevice size (xs ++ ys) device
     → ShowsDevice size xs device
 nothing_more size xs ys device idle others h =
     let c = continues size xs ys device h in

@@ -29,7 +29,7 @@ left_failed : mirrored 4 both_present write_and_read (answered.IoError 1 ∷ [])
     ≡ Some (record { present = record { left = false; right = true }; answers = mirror.Done ∷ mirror.Blocks ones ∷ [] })
 left_failed = refl
 
--- a read past the end asks nobody, and an answer that nobody was asked for is too many
+-- a read past the end asks no side, and each answer that no side was asked for is one too many
 past_the_end : mirrored 4 both_present (Read 3 2 ∷ []) [] []
     ≡ Some (record { present = both_present; answers = mirror.BadRange ∷ [] })
 past_the_end = refl

@@ -1,4 +1,4 @@
--- One plain disk of which blocks may be bad: what it answers to reads and writes, and what these leave of it.
+-- One plain disk whose blocks may be bad: what it answers to reads and writes, and how these change it.
 use Rattle.std.specs.Prelude.{◌≡◌, ℕ, Bool, true, List, [], ◌∷◌, Option, Some, None, not}
 use Rattle.std.specs.List.{list_all}
 use Rattle.nook_data.specs.declared.calls.Answer.{Answer}
@@ -17,13 +17,13 @@ use Rattle.mirror_block.specs.Rule.{refusal_of}
 
 -- ---- the plain disk
 
--- A Write whose medium failed at some block stored some of the blocks that it covers. The others are as they were.
+-- A Write whose medium failed at some block stored some of the blocks that it covers. The others are unchanged.
 pub record IsPartlyWritten (o : Op) (disk after : List (List ℕ)) : Type 0 where
   pub stored : ℕ → Bool
   pub covered : (block : ℕ) → stored block ≡ true → covers o block ≡ true
   pub after_is : after ≡ put_from stored o 0 disk
 
--- how a disk serves a Read or Write that the static check lets pass
+-- how a disk serves a Read or Write that passes the static check
 abbrev pub ServesChecked : List (List ℕ) → Op → MirrorAnswer → List (List ℕ) → Type 0
 ServesChecked disk (Read first count) (mirror.Blocks words) after =
     (words ≡ get_blocks disk first count) × (after ≡ disk)
@@ -35,7 +35,7 @@ ServesChecked disk (Write first words) (mirror.IoError block) after =
     (covers (Write first words) block ≡ true) × IsPartlyWritten (Write first words) disk after
 ServesChecked disk _ _ after = ⊥
 
--- how a disk serves an operation that one side answered so; no disk gives any other answer
+-- how a disk serves an operation to which one side gave this answer; no disk gives any other answer
 abbrev pub ServesSaid : List (List ℕ) → Op → Answer → List (List ℕ) → Type 0
 ServesSaid disk o answered.Done after = ServesChecked disk o mirror.Done after
 ServesSaid disk o (answered.Blocks words) after = ServesChecked disk o (mirror.Blocks words) after
@@ -46,7 +46,7 @@ abbrev pub ServesBy : Option Answer → List (List ℕ) → Op → MirrorAnswer 
 ServesBy None disk o a after = ServesChecked disk o a after
 ServesBy (Some refusal) disk o a after = (refusal_of refusal ≡ Some a) × (after ≡ disk)
 
--- a plain disk of so many blocks, any of which may be bad, serves the operation with this answer and is this afterwards
+-- a plain disk of this size, whose blocks may be bad, gives this answer to the operation and then has these blocks
 abbrev pub Serves : ℕ → List (List ℕ) → Op → MirrorAnswer → List (List ℕ) → Type 0
 Serves size disk o a after = ServesBy (static_check Block size o) disk o a after
 
@@ -62,7 +62,7 @@ ServesAll size disk (served ∷ more) after =
 abbrev pub ShowsDevice : ℕ → List Event → Ideal → Type 0
 ShowsDevice size seen device = ran (never_failing Block size) (trace seen) ≡ Some device
 
--- the disk of that device, where the events show such a run
+-- the disk of that device, if the events show such a run
 pub record ShowsDisk (size : ℕ) (seen : List Event) (disk : List (List ℕ)) : Type 0 where
   pub device : Ideal
   pub shows : ShowsDevice size seen device
@@ -71,19 +71,19 @@ pub record ShowsDisk (size : ℕ) (seen : List Event) (disk : List (List ℕ)) :
 abbrev pub is_over : Opened → Bool
 is_over o = not o.waits
 
--- where these events show a run of the never-failing disk, no call waits at its end
-abbrev pub IsIdleBehind : ℕ → List Event → Type 0
-IsIdleBehind size seen = (device : Ideal) → ShowsDevice size seen device → list_all is_over device.opened ≡ true
+-- if these events show a run of the never-failing disk, no call waits at its end
+abbrev pub IsIdleAfter : ℕ → List Event → Type 0
+IsIdleAfter size seen = (device : Ideal) → ShowsDevice size seen device → list_all is_over device.opened ≡ true
 
--- One operation stands behind what was seen before, and was answered so. Where the events show a run of the
--- never-failing disk, so do those before, and the answer is one that such a disk gives.
+-- One operation was added after what was seen before, and got this answer. If the events show a run of the
+-- never-failing disk, so do the earlier ones, and the answer is one that such a disk gives.
 pub record IsShown (size : ℕ) (before seen : List Event) (o : Op) (a : Answer) : Type 0 where
   pub continues : (device : Ideal) → ShowsDevice size seen device → (earlier : Ideal) × ShowsDevice size before earlier
   pub serves : static_check Block size o ≡ None → (disk after : List (List ℕ)) → ShowsDisk size before disk
       → ShowsDisk size seen after → ServesSaid disk o a after
 
--- a part of class block answers an operation that passes the static check so and no otherwise: with what was asked for,
--- with a block that failed, or with Gone
+-- a part of class block gives only these answers to an operation that passes the static check: what was asked for, a
+-- block that failed, or Gone
 abbrev pub MayAnswer : Answer → Op → Type 0
 MayAnswer (answered.Blocks words) (Read first count) = Unit {0}
 MayAnswer answered.Done (Write first words) = Unit {0}

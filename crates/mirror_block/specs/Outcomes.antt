@@ -1,4 +1,4 @@
--- The outcome that the program decides on, against the rule's.
+-- The outcome that the program decides on, compared with the rule's.
 use Rattle.std.specs.Prelude.{◌≡◌}
 use Rattle.mirror_block.specs.declared.outcome.Outcome as decided
 use Rattle.mirror_block.specs.Rule as rule

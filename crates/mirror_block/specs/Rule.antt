@@ -26,7 +26,7 @@ pub record Outcome : Type 0 where
 abbrev pub outcome : Bool → Bool → MirrorAnswer → Outcome
 outcome left right a = record { present = record { left = left; right = right }; answer = a }
 
--- ---- what a side said; None where it was not asked
+-- ---- what a side said; None if it was not asked
 
 -- the side did the Write
 abbrev pub is_done : Option Answer → Bool
@@ -45,13 +45,13 @@ failed_block _ = None
 
 -- ---- a Write
 
--- where no side did it, the first whose medium failed stays alone
+-- if no side did it, the first side whose medium failed stays alone
 abbrev pub after_failed_write : Option ℕ → Option ℕ → Outcome
 after_failed_write (Some block) right = outcome true false (mirror.IoError block)
 after_failed_write None (Some block) = outcome false true (mirror.IoError block)
 after_failed_write None None = outcome false false mirror.BothLost
 
--- the sides that did it stay; every other side that was asked goes
+-- the sides that did it stay; every other side that was asked is removed
 abbrev pub after_write : Option Answer → Option Answer → Outcome
 after_write left right =
     if is_done left || is_done right
@@ -60,7 +60,7 @@ after_write left right =
 
 -- ---- a Read
 
--- a side that gave blocks or whose medium failed stays, any other answer sends it away; one that was not asked is
+-- a side that gave blocks or whose medium failed stays; any other answer removes it; a side that was not asked is
 -- present as before
 abbrev pub stays_after_read : Bool → Option Answer → Bool
 stays_after_read present None = present
@@ -68,13 +68,13 @@ stays_after_read present (Some (answered.Blocks words)) = true
 stays_after_read present (Some (answered.IoError block)) = true
 stays_after_read present (Some _) = false
 
--- the first block that failed, where no side gave blocks
+-- the first block that failed, if no side gave blocks
 abbrev pub failed_read : Option ℕ → Option ℕ → MirrorAnswer
 failed_read (Some block) right = mirror.IoError block
 failed_read None (Some block) = mirror.IoError block
 failed_read None None = mirror.BothLost
 
--- the blocks of the first side that gave some
+-- the blocks of the first side that gave any
 abbrev pub read_answer : Option (List ℕ) → Option (List ℕ) → MirrorAnswer → MirrorAnswer
 read_answer (Some words) right failed = mirror.Blocks words
 read_answer None (Some words) failed = mirror.Blocks words
@@ -93,7 +93,7 @@ is_disk_op (Read first count) = true
 is_disk_op (Write first words) = true
 is_disk_op _ = false
 
--- the right side is asked in each Write, and in a Read where the left side gave no blocks
+-- the right side is asked in each Write, and in a Read if the left side gave no blocks
 abbrev pub asks_right : Presence → Op → Option Answer → Bool
 asks_right present o left = present.right && (is_write o || not (is_some (words_read left)))
 
@@ -102,18 +102,18 @@ after_asking present o left right = if is_write o then after_write left right el
 
 -- ---- one step
 
--- what a side said, and the answers behind that
+-- what a side said, and its later answers
 pub record Said : Type 0 where
   pub said : Option Answer
   pub rest : List Answer
 
--- a side that is asked gives its next answer; nothing where it has none left
+-- a side that is asked gives its next answer; there is no result if it has none left
 abbrev pub says : Bool → List Answer → Option Said
 says false answers = Some (record { said = None; rest = answers })
 says true [] = None
 says true (a ∷ answers) = Some (record { said = Some a; rest = answers })
 
--- what a step leads to, and the answers of each side that are left behind it
+-- what a step leads to, and the answers of each side that it leaves
 pub record MirrorStep : Type 0 where
   pub outcome : Outcome
   pub left : List Answer
@@ -134,7 +134,7 @@ step_asking present o lefts rights =
     (λ right. Some (mirror_step_of present o left right)) (says (asks_right present o left.said) rights))
     (says present.left lefts)
 
--- what the mirror answers where the static check refuses a Read or Write
+-- what the mirror answers if the static check refuses a Read or Write
 abbrev pub refusal_of : Answer → Option MirrorAnswer
 refusal_of answered.BadLength = Some mirror.BadLength
 refusal_of answered.BadRange = Some mirror.BadRange
@@ -144,7 +144,7 @@ abbrev pub refusal_by : Option Answer → Option MirrorAnswer
 refusal_by None = None
 refusal_by (Some refusal) = refusal_of refusal
 
--- nobody is asked
+-- no side is asked
 abbrev pub step_refused : Presence → Option MirrorAnswer → List Answer → List Answer → Option MirrorStep
 step_refused present None lefts rights = None
 step_refused present (Some a) lefts rights =
@@ -154,9 +154,9 @@ abbrev pub step_checked : Option Answer → Presence → Op → List Answer → 
 step_checked None present o lefts rights = step_asking present o lefts rights
 step_checked (Some refusal) present o lefts rights = step_refused present (refusal_of refusal) lefts rights
 
--- One operation on a disk of so many blocks, from the sides that are present, with the answers that each side has for
--- its calls: what it leads to, and the answers that it does not use. There is no step where a side is asked that has no
--- answer left, nor for an operation that is no Read or Write.
+-- One operation on a disk with this many blocks, from the sides that are present, with the answers that each side has
+-- for its calls: what it leads to, and the answers that it does not use. There is no step if a side that has no answer
+-- left is asked, or if the operation is neither a Read nor a Write.
 abbrev pub mirror_step : ℕ → Presence → Op → List Answer → List Answer → Option MirrorStep
 mirror_step blocks present (Read first count) lefts rights =
     step_checked (static_check Block blocks (Read first count)) present (Read first count) lefts rights
@@ -166,7 +166,7 @@ mirror_step blocks present _ lefts rights = None
 
 -- ---- a side that is asked and has not answered
 
--- the answer that a side gave, where it was asked and gave one
+-- the answer that a side gave, if it was asked and gave one
 abbrev pub first_said : Bool → List Answer → Option Answer
 first_said true (a ∷ answers) = Some a
 first_said _ _ = None
@@ -192,13 +192,13 @@ asked_next blocks present o lefts rights =
 
 -- ---- the words of a Write
 
--- how many blocks so many words fill; 0 where they do not fill blocks, or more of them than one operation may cover
+-- how many blocks this many words fill; 0 if they do not fill whole blocks, or fill more than one operation may cover
 abbrev pub blocks_filled : ℕ → ℕ
 blocks_filled n = if is_block_length n then n / 16 else 0
 
 -- ---- a list of operations
 
--- which sides are present behind operations, and what each was answered
+-- which sides are present after operations, and the answer to each operation
 pub record Mirrored : Type 0 where
   pub present : Presence
   pub answers : List MirrorAnswer
@@ -211,8 +211,8 @@ abbrev pub mirrored_at_end : Presence → List Answer → List Answer → Option
 mirrored_at_end present [] [] = Some (record { present = present; answers = [] })
 mirrored_at_end present _ _ = None
 
--- The rule over operations, with the answers of each side to all its calls, in their order. Each step takes from the
--- front what it uses; there is nothing where the answers do not suffice, or where some are left.
+-- The rule over operations, with the answers of each side to all its calls, in order. Each step takes the answers that
+-- it uses from the start of the lists. There is no result if the answers do not suffice, or if some are left.
 abbrev pub mirrored : ℕ → Presence → List Op → List Answer → List Answer → Option Mirrored
 mirrored blocks present [] lefts rights = mirrored_at_end present lefts rights
 mirrored blocks present (o ∷ ops) lefts rights =

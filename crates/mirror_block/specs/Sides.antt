@@ -15,12 +15,12 @@ use Rattle.nook_data.specs.Answers.{answer_at}
 use Rattle.desk_like.specs.Desks.{Accounts, DeskView, IsAlone}
 use Rattle.mirror_block.specs.declared.stop.MirrorStop.{MirrorStop}
 use Rattle.mirror_block.specs.declared.stop.MirrorStop.TheVariants as stop
-use Rattle.mirror_block.specs.Disk.{IsIdleBehind, IsShown, MayAnswer}
+use Rattle.mirror_block.specs.Disk.{IsIdleAfter, IsShown, MayAnswer}
 use Rattle.mirror_block.specs.Rule.{Presence, asks_right}
 
 -- ---- what a seat has seen
 
--- what a seat has seen more
+-- what a seat has seen since
 abbrev pub gained : DeskView → DeskView → List Event
 gained old new = drop (length old.seen) new.seen
 
@@ -56,7 +56,7 @@ abbrev pub and_more : Option Answer → List Answer → List Answer
 and_more None answers = answers
 and_more (Some a) answers = a ∷ answers
 
--- the answers to the calls that are invoked in these events, in the order of the calls; there is none to an open call
+-- the answers to the calls that are invoked in these events, in the order of the calls; an open call has none
 abbrev pub answers_given : List Event → List Answer
 answers_given [] = []
 answers_given (event.Invoke call thread o answer ∷ events) =
@@ -65,7 +65,7 @@ answers_given (e ∷ events) = answers_given events
 
 -- ---- a side
 
--- a side before the mirror is made: a disk of so many blocks, whose only seat has seen nothing
+-- a side before the mirror is made: a disk with this many blocks, whose only seat has seen nothing
 pub record IsNewSide (spec : PartSpec) (blocks : ℕ) (v : DeskView) : Type 0 where
   pub class : spec.class ≡ class.Block
   pub size : spec.blocks ≡ blocks
@@ -73,8 +73,8 @@ pub record IsNewSide (spec : PartSpec) (blocks : ℕ) (v : DeskView) : Type 0 wh
   pub accounts : Accounts v
   pub seen : v.seen ≡ []
 
--- a side of a mirror of so many blocks, whose flag is set or not: its seat is the only one at its desk, which added all
--- that it has seen; while the flag is not set no call is open
+-- a side of a mirror with this many blocks, which has stopped or not: its seat is the only one at its desk, and added
+-- all that it has seen; unless the mirror has stopped, no call is open
 pub record IsSide (spec : PartSpec) (blocks : ℕ) (stopped : Bool) (v : DeskView) : Type 0 where
   pub class : spec.class ≡ class.Block
   pub size : spec.blocks ≡ blocks
@@ -82,19 +82,19 @@ pub record IsSide (spec : PartSpec) (blocks : ℕ) (stopped : Bool) (v : DeskVie
   pub accounts : Accounts v
   pub run : IsRun spec v.seen
   pub none_open : stopped ≡ false → (state_of spec v.seen).log.pending ≡ []
-  pub idle : stopped ≡ false → IsIdleBehind blocks v.seen
+  pub idle : stopped ≡ false → IsIdleAfter blocks v.seen
 
 -- ---- what an operation adds
 
--- The side was asked: its seat has seen one invocation more, of thread 0 and this operation. Before that it had seen
--- fewer than 100,000.
+-- The side was asked: its seat has seen one more invocation, of thread 0 and this operation. Before that it had seen
+-- fewer than 100,000 invocations.
 pub record IsAsked (old new : DeskView) (o : Op) : Type 0 where
   pub seen : IsPrefix old.seen new.seen
   pub call : ℕ
   pub invoked : invocations (gained old new) ≡ record { call = call; thread = 0; op = o } ∷ []
   pub room : length (invocations old.seen) < 100000
 
--- The side was asked once where it gave these answers, and its seat knows nothing more where it gave none
+-- The side was asked once if it gave these answers; if it gave none, its seat knows nothing new
 abbrev pub IsAskedFor : DeskView → DeskView → Op → List Answer → Type 0
 IsAskedFor old new o [] = KnowsSame old new
 IsAskedFor old new o (a ∷ answers) = IsAsked old new o
@@ -106,21 +106,21 @@ answers_gained old new = answers_given (gained old new)
 abbrev pub IsServed : DeskView → DeskView → Op → Type 0
 IsServed old new o = IsAskedFor old new o (answers_gained old new)
 
--- the side's memory was wanting: before the call was invoked, or while it was open
-abbrev pub WantsMemory : DeskView → DeskView → Op → Type 0
-WantsMemory old new o = KnowsSame old new ⊎ (IsAsked old new o × (answers_gained old new ≡ []))
+-- the side ran out of memory, before the call was invoked or while it was open
+abbrev pub NeedsMemory : DeskView → DeskView → Op → Type 0
+NeedsMemory old new o = KnowsSame old new ⊎ (IsAsked old new o × (answers_gained old new ≡ []))
 
 -- the side has all the calls that a part may have, and nothing was invoked
 abbrev pub IsFull : DeskView → DeskView → Op → Type 0
 IsFull old new o = KnowsSame old new × (length (invocations old.seen) ≡ 100000)
 
--- where the side was present, it was asked and answered Gone
+-- if the side was present, it was asked and answered Gone
 abbrev pub SaysGone : Bool → List Answer → Type 0
 SaysGone present answers = present ≡ true → (failures : ℕ) × (answers ≡ answered.Gone failures ∷ [])
 
 -- ---- how asking the sides ends
 
--- The side was asked exactly where it should be, and said this, which is an answer to the operation. No call is open at
+-- The side was asked exactly if it should be, and said this, which is an answer to the operation. No call is open at
 -- it.
 abbrev pub IsSaid : PartSpec → DeskView → DeskView → Bool → Op → Option Answer → Type 0
 IsSaid spec old new asked o None = (asked ≡ false) × (new ≡ old)
@@ -128,10 +128,10 @@ IsSaid spec old new asked o (Some a) =
     (asked ≡ true) × IsAsked old new o × (answers_gained old new ≡ a ∷ []) × IsSide spec spec.blocks false new
     × IsShown spec.blocks old.seen new.seen o a × (static_check class.Block spec.blocks o ≡ None → MayAnswer a o)
 
--- the side, 0 or 1, was asked and cut off
+-- the side, 0 or 1, was asked and interrupted
 abbrev pub IsCut : PartSpec → DeskView → DeskView → ℕ → Bool → Op → MirrorStop → Type 0
 IsCut spec old new number asked o (stop.NoMemory (Some side)) =
-    (asked ≡ true) × (side ≡ number) × WantsMemory old new o × IsSide spec spec.blocks true new
+    (asked ≡ true) × (side ≡ number) × NeedsMemory old new o × IsSide spec spec.blocks true new
 IsCut spec old new number asked o (stop.TooManyCalls side) = (asked ≡ true) × (side ≡ number) × IsFull old new o
 IsCut spec old new number asked o _ = ⊥
 
@@ -140,7 +140,7 @@ abbrev pub AskEnds : PartSpec → DeskView → DeskView → ℕ → Bool → Op 
 AskEnds spec old new number asked o (Ok said) = IsSaid spec old new asked o said
 AskEnds spec old new number asked o (Err why) = IsCut spec old new number asked o why
 
--- what the seats at both sides knew and know, and the parts behind them
+-- what the seats at both sides knew and know, and the specs of their parts
 pub record Sides : Type 0 where
   pub left_spec : PartSpec
   pub right_spec : PartSpec
@@ -149,12 +149,12 @@ pub record Sides : Type 0 where
   pub right_old : DeskView
   pub right_new : DeskView
 
--- the left side was cut off before the right one was asked
+-- the left side was interrupted before the right one was asked
 abbrev pub IsLeftCut : Sides → Presence → Op → MirrorStop → Type 0
 IsLeftCut s present o why =
     IsCut s.left_spec s.left_old s.left_new 0 present.left o why × (s.right_new ≡ s.right_old)
 
--- the right side was cut off, after the left one said something or was not asked
+-- the right side was interrupted, after the left one said something or was not asked
 pub record IsRightCut (s : Sides) (present : Presence) (o : Op) (why : MirrorStop) : Type 0 where
   pub left : Option Answer
   pub left_said : IsSaid s.left_spec s.left_old s.left_new present.left o left

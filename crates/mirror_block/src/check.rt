@@ -1,4 +1,4 @@
-//! What is wrong with an operation whatever the sides' state.
+//! What is wrong with an operation, whatever the state of the sides.
 
 ghost use Rattle.std.specs.Prelude.{◌≡◌, length};
 ghost use Rattle.nook_data.specs.Classes.{static_check};
@@ -11,10 +11,10 @@ use nook_data::limits::{BLOCK_WORDS, MOST_BLOCKS};
 use nook_data::lists::Words;
 use nook_data::mirror::MirrorAnswer;
 
-/// The words of the most blocks that one operation may cover.
+/// The number of words in the most blocks that one operation may cover.
 const MOST_WORDS: usize = BLOCK_WORDS * MOST_BLOCKS as usize;
 
-/// What a mirror of so many blocks answers to an operation on `count` blocks from `first` on without asking a side.
+/// What a mirror with `blocks` blocks answers to an operation on `count` blocks from `first` on, without asking a side.
 pub fn refusal(blocks: u32, first: u32, count: u32) -> Option<MirrorAnswer>
     ensures { result ≡ refusal_by (static_check Class.Block blocks (Op.Read first count)) }
 {
@@ -26,7 +26,7 @@ pub fn refusal(blocks: u32, first: u32, count: u32) -> Option<MirrorAnswer>
     }
 }
 
-/// How many blocks these words fill; 0 where they do not fill blocks, or more of them than one operation may cover.
+/// How many blocks these words fill; 0 if they do not fill whole blocks, or fill more than one operation may cover.
 pub fn blocks_filled(words: &Words) -> u32
     ensures { result ≡ blocks_filled (length words.now) }
 {

@@ -8,11 +8,12 @@ ghost use Rattle.mirror_block.specs.Mirrors.{AreServed, IsDisk, MirrorView};
 
 use desk_like::DeskLike;
 
-/// Over any operations of which none is answered `BothLost` the answers are those of one plain disk with bad blocks,
-/// and what the sides show at the end is that disk. It is so where, behind each operation, the trace of each present
-/// side is a run of the class's never-failing disk.
+/// If no operation is answered `BothLost`, the answers are those of one plain disk with bad blocks, and the sides show
+/// that disk at the end. This holds if, after each operation, the trace of each present side is a run of the class's
+/// never-failing disk.
 pub fn the_answers_are_those_of_one_disk<D: DeskLike>()
     ensures { (old new : MirrorView D) (served : List (Op × MirrorAnswer)) (disk : List (List ℕ))
-        → (old.present.left || old.present.right) ≡ true → IsDisk old disk → AreServed D.spec old served new
+        → (old.present.left || old.present.right) ≡ true → IsDisk old disk
+        → AreServed D.spec old served new
         → (after : List (List ℕ)) × IsDisk new after × ServesAll old.blocks disk served after }
 {}

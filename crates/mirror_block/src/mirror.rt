@@ -48,7 +48,7 @@ impl<'a, D: DeskLike> Model for Mirror<'a, D> {
 }
 
 impl<'a, D: DeskLike> Mirror<'a, D> {
-    /// A mirror over two desks, of a disk of so many blocks. Both sides are present. It takes no memory.
+    /// A mirror over two desks, as a disk with `blocks` blocks. Both sides are present. It allocates nothing.
     pub fn new(
         left: &'a D,
         right: &'a D,
@@ -61,7 +61,8 @@ impl<'a, D: DeskLike> Mirror<'a, D> {
         requires left { IsNewSide (D.spec left.now) blocks (D.view left_seat) }
         requires right { IsNewSide (D.spec right.now) blocks (D.view right_seat) }
         ensures mirror { IsMirror D.spec result }
-        ensures made { result ≡ new_mirror left.now right.now (D.view left_seat) (D.view right_seat) blocks }
+        ensures made { result
+            ≡ new_mirror left.now right.now (D.view left_seat) (D.view right_seat) blocks }
     {
         Mirror {
             left: Side {
@@ -81,7 +82,7 @@ impl<'a, D: DeskLike> Mirror<'a, D> {
 
     /// Reads `count` blocks from `first` on, from the first side that gives them.
     ///
-    /// `NoMemory` and `TooManyCalls` come from the side that is asked; each later call is then answered `Stopped`.
+    /// `NoMemory` and `TooManyCalls` come from the side that is asked; each later call then returns `Stopped`.
     pub fn read<R: Wait>(
         &mut self,
         rt: &R,
@@ -102,10 +103,10 @@ impl<'a, D: DeskLike> Mirror<'a, D> {
         self.ask(rt, alloc, &Op::Read { first, count })
     }
 
-    /// Writes blocks from `first` on at both sides.
+    /// Writes blocks from `first` on to both sides.
     ///
-    /// `NoMemory` with no side comes where the mirror's own copy of the words wants memory. Else `NoMemory` and
-    /// `TooManyCalls` come from the side that is asked. Each later call is then answered `Stopped`.
+    /// `NoMemory` without a side means that there was no memory for the mirror's own copy of the words. Otherwise
+    /// `NoMemory` and `TooManyCalls` come from the side that is asked. Each later call then returns `Stopped`.
     pub fn write<R: Wait>(
         &mut self,
         rt: &R,
@@ -135,7 +136,7 @@ impl<'a, D: DeskLike> Mirror<'a, D> {
         }
     }
 
-    // Asks the sides for an operation that the static check lets pass.
+    // Asks the sides for an operation that passes the static check.
     fn ask<R: Wait>(&mut self, rt: &R, alloc: Global, op: &Op) -> Result<MirrorAnswer, MirrorStop>
         requires mirror { IsMirror D.spec self.old }
         requires goes { self.old.stopped ≡ false }
@@ -170,7 +171,7 @@ impl<'a, D: DeskLike> Mirror<'a, D> {
         }
     }
 
-    /// Gives both seats back.
+    /// Returns both seats.
     pub fn seats(self) -> (D::Seat, D::Seat)
         ensures left { D.is_seat self.entry.left_desk result.0 }
         ensures right { D.is_seat self.entry.right_desk result.1 }

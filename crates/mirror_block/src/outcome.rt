@@ -1,4 +1,4 @@
-//! Who stays, and what a mirror answers, by what the sides said.
+//! Which sides stay, and what a mirror answers, from what the sides said.
 
 ghost use Rattle.std.specs.Prelude.{◌≡◌};
 ghost use Rattle.mirror_block.specs.Rule.{after_asking, after_failed_write, after_read, after_write, failed_block};
@@ -33,7 +33,7 @@ fn failed_block(said: &Option<Answer>) -> Option<u32>
     }
 }
 
-/// Whether a side that was present, or not, is so after a read.
+/// Whether a side is present after a read.
 fn stays_after_read(present: bool, said: &Option<Answer>) -> bool
     ensures { result ≡ stays_after_read present said.now }
 {
@@ -44,7 +44,7 @@ fn stays_after_read(present: bool, said: &Option<Answer>) -> bool
     }
 }
 
-/// Where no side did a write, the first whose medium failed stays alone.
+/// The outcome if no side did a write: the first side whose medium failed stays alone.
 fn after_failed_write(left: Option<u32>, right: Option<u32>) -> Outcome
     ensures { Decides result (after_failed_write left right) }
 {
@@ -67,7 +67,7 @@ fn after_failed_write(left: Option<u32>, right: Option<u32>) -> Outcome
     }
 }
 
-/// After a write: the sides that did it stay.
+/// The outcome of a write: the sides that did it stay.
 fn after_write(left: &Option<Answer>, right: &Option<Answer>) -> Outcome
     ensures { Decides result (after_write left.now right.now) }
 {
@@ -83,7 +83,7 @@ fn after_write(left: &Option<Answer>, right: &Option<Answer>) -> Outcome
     after_failed_write(failed_block(left), failed_block(right))
 }
 
-/// What a read is answered where no side gave blocks.
+/// The answer to a read if no side gave blocks.
 fn failed_read(left: Option<u32>, right: Option<u32>) -> MirrorAnswer
     ensures { result ≡ failed_read left right }
 {
@@ -93,7 +93,7 @@ fn failed_read(left: Option<u32>, right: Option<u32>) -> MirrorAnswer
     }
 }
 
-/// What a read is answered: the blocks of the first side that gave some.
+/// The answer to a read: the blocks of the first side that gave any.
 fn read_answer(left: Option<Answer>, right: Option<Answer>) -> MirrorAnswer
     ensures { result ≡ read_answer (words_read left) (words_read right)
         (failed_read (failed_block left) (failed_block right)) }
@@ -106,14 +106,15 @@ fn read_answer(left: Option<Answer>, right: Option<Answer>) -> MirrorAnswer
     }
 }
 
-/// After a read, of sides that were present or not.
+/// The outcome of a read, given which sides were present.
 fn after_read(
     left_present: bool,
     right_present: bool,
     left: Option<Answer>,
     right: Option<Answer>,
 ) -> Outcome
-    ensures { Decides result (after_read (record { left = left_present; right = right_present }) left right) }
+    ensures { Decides result
+        (after_read (record { left = left_present; right = right_present }) left right) }
 {
     let left_stays = stays_after_read(left_present, &left);
     let right_stays = stays_after_read(right_present, &right);
@@ -124,7 +125,7 @@ fn after_read(
     }
 }
 
-/// After a read or a write, of sides that were present or not.
+/// The outcome of a read or a write, given which sides were present.
 pub fn after_asking(
     op: &Op,
     left_present: bool,
@@ -132,7 +133,8 @@ pub fn after_asking(
     left: Option<Answer>,
     right: Option<Answer>,
 ) -> Outcome
-    ensures { Decides result (after_asking (record { left = left_present; right = right_present }) op.now left right) }
+    ensures { Decides result
+        (after_asking (record { left = left_present; right = right_present }) op.now left right) }
 {
     match op {
         Op::Write { .. } => after_write(&left, &right),

@@ -14,7 +14,7 @@ use std::sync::Wait;
 /// The thread for which every call is made.
 const OWNER: u8 = 0;
 
-/// A desk with the one seat at it, and whether the mirror still asks it.
+/// A desk with the only seat at it, and whether the mirror still asks it.
 #[derive(Drop)]
 pub struct Side<'a, D: DeskLike> {
     pub desk: &'a D,
@@ -22,7 +22,7 @@ pub struct Side<'a, D: DeskLike> {
     pub present: bool,
 }
 
-/// Asks a side once where it is to be asked, and tells its answer. `number` is the side's own, 0 or 1.
+/// Asks a side once, if it is to be asked, and returns its answer. `number` is the side's number, 0 or 1.
 fn ask<R: Wait, D: DeskLike>(
     rt: &R,
     alloc: Global,
@@ -32,11 +32,13 @@ fn ask<R: Wait, D: DeskLike>(
     op: &Op,
 ) -> Result<Option<Answer>, MirrorStop>
     requires seat { D.is_seat side.old.desk.now side.old.seat }
-    requires side { IsSide (D.spec side.old.desk.now) (D.spec side.old.desk.now).blocks false (D.view side.old.seat) }
+    requires side { IsSide (D.spec side.old.desk.now) (D.spec side.old.desk.now).blocks false
+        (D.view side.old.seat) }
     requires disk_op { is_disk_op op.now ≡ true }
     ensures same { side.new ≡ record side.old { seat = side.new.seat } }
     ensures seat { D.is_seat side.new.desk.now side.new.seat }
-    ensures ends { AskEnds (D.spec side.old.desk.now) (D.view side.old.seat) (D.view side.new.seat) number asked op.now
+    ensures ends { AskEnds (D.spec side.old.desk.now) (D.view side.old.seat)
+        (D.view side.new.seat) number asked op.now
         result }
 {
     if !asked {
@@ -57,8 +59,8 @@ fn gave_blocks(said: &Option<Answer>) -> bool
     matches!(said, Some(Answer::Blocks(_)))
 }
 
-/// Asks the left side, and then the right one where its answer is wanted too: in a write, or where the left side gave
-/// no blocks. A side that is not present is not asked.
+/// Asks the left side, and then the right one if its answer is needed too: in a write, or if the left side gave no
+/// blocks. A side that is not present is not asked.
 pub fn ask_both<R: Wait, D: DeskLike>(
     rt: &R,
     alloc: Global,
@@ -68,7 +70,8 @@ pub fn ask_both<R: Wait, D: DeskLike>(
 ) -> Result<(Option<Answer>, Option<Answer>), MirrorStop>
     requires left_seat { D.is_seat left.old.desk.now left.old.seat }
     requires right_seat { D.is_seat right.old.desk.now right.old.seat }
-    requires left { IsSide (D.spec left.old.desk.now) (D.spec left.old.desk.now).blocks false (D.view left.old.seat) }
+    requires left { IsSide (D.spec left.old.desk.now) (D.spec left.old.desk.now).blocks false
+        (D.view left.old.seat) }
     requires right { IsSide (D.spec right.old.desk.now) (D.spec right.old.desk.now).blocks false
         (D.view right.old.seat) }
     requires disk_op { is_disk_op op.now ≡ true }
@@ -88,7 +91,7 @@ pub fn ask_both<R: Wait, D: DeskLike>(
         (record { left = left.old.present; right = right.old.present }) op.now result }
 {
     let left_said = ask(rt, alloc, left, 0, left.present, op)?;
-    let wanted = matches!(op, Op::Write { .. }) || !gave_blocks(&left_said);
-    let right_said = ask(rt, alloc, right, 1, right.present && wanted, op)?;
+    let expected = matches!(op, Op::Write { .. }) || !gave_blocks(&left_said);
+    let right_said = ask(rt, alloc, right, 1, right.present && expected, op)?;
     Ok((left_said, right_said))
 }

@@ -1,4 +1,4 @@
--- Events that are added to what a side's seat has seen: the answers and the invocations in them.
+-- The answers and the invocations in events that are added to what a side's seat has seen.
 use Rattle.std.proofs.Common.{◌≡◌, ◌⊎◌, inl, inr, ℕ, suc, ◌≤◌, Option, Some, None, List, [], ◌∷◌, ◌++◌, length, refl, sym, ap, subst, ◌∙◌, arith, append-nil, length-append}
 use Rattle.std.specs.List.{AllByRecursion}
 use Rattle.nook_data.specs.declared.calls.Answer.{Answer}
@@ -119,14 +119,14 @@ pub asked_once : (o : Op) (more : List Event) (answers : List Answer) → IsAski
 asked_once o more [] h = let none : length (invocations more) ≡ 0 = ap (λ (l : List Event). length (invocations l)) h in omega arith
 asked_once o more (a ∷ answers) h = let one : length (invocations more) ≡ 1 = ap (λ (l : List Invocation). length l) h.1 in omega arith
 
--- the static check passes the call that it was asked, if it was
+-- if a side was asked, its call passed the static check
 pub own_checked : (blocks : ℕ) (o : Op) (more : List Event) (answers : List Answer) → IsAsking o more answers → (static_check Block blocks o ≡ None) ⊎ (answers ≡ [])
     → AreChecked blocks (invocations more)
 own_checked blocks o more [] h check = subst (λ (l : List Event). AreChecked blocks (invocations l)) (sym h) tt
 own_checked blocks o more (a ∷ answers) h (inl c) = subst (AreChecked blocks) (sym h.1) (c, tt)
 own_checked blocks o more (a ∷ answers) h (inr none) = absurd cc
 
--- a journal that goes on behind what was seen, without an invocation, answers the same
+-- a journal that continues what was seen, without an invocation, gives the same answers
 pub same_given : (seen journal : List Event) → AllAnswered seen → GoesOn seen journal → answers_given journal ≡ answers_given seen
 same_given seen journal all g =
     ap answers_given (sym g.begins) ∙ given_parts seen g.rest all ∙ ap (λ (l : List Answer). answers_given seen ++ l) (others_given g.rest g.others)

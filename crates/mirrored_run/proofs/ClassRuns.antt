@@ -1,5 +1,5 @@
--- A disk whose driver kept the contract and that answered no call Gone shows one run of the class's never-failing disk,
--- also where its part was given up with no call open.
+-- A disk whose driver kept the contract, and that answered no call with Gone, shows one run of the class's
+-- never-failing disk, even if its part was given up with no call open.
 use Rattle.std.proofs.Common.{◌≡◌, inl, inr, ℕ, ◌+◌, ◌<◌, ◌≤◌, ◌&&◌, not, is_some, nat_le, nat_lt, eqb, true, false, Option, Some, None, List, [], ◌∷◌, ◌++◌, length, eq-eqb, refl, sym, ap, subst, ◌∙◌, arith, true≢false}
 use Rattle.std.specs.List.{AllByRecursion, list_any}
 use Rattle.std.proofs.lemmas.Bool.{and_parts, cond-false, cond-true, leb-false, leb-true}
@@ -40,7 +40,7 @@ use Rattle.part_laws.specs.Facts.{is_dead}
 use Rattle.part_laws.specs.Views.{ideal_of, view_of}
 use Rattle.part_laws.specs.Recovery.{Gone, IsKeptRun, ShowsDevice, has_write, is_write_call}
 use Rattle.part_laws.proofs.Counts.{counted_from}
-use Rattle.part_laws.proofs.Places.{split}
+use Rattle.part_laws.proofs.Indices.{split}
 use Rattle.part_laws.proofs.ReadAloud.{kept_agrees, kept_facts}
 use Rattle.part_laws.proofs.Recovered.{gone_stays}
 use Rattle.part_laws.proofs.RunBound.{count_more}
@@ -49,15 +49,15 @@ use Rattle.mirror_block.specs.Sides.{Invocation, and_more, answers_given, first_
 use Rattle.mirror_block.proofs.Calls.{invoke_number, run_parts, state_parts}
 use Rattle.mirrored_run.proofs.GivingUp.{GivenUp, StopsAll, given_up_in, gives_up, gone_given, has_gone, more_gone, trace_ends, unbroken_before}
 
--- the static check of a disk of so many blocks passes each
+-- each operation passes the static check of a disk with this many blocks
 abbrev pub AreChecked : ℕ → List Invocation → Type 0
 AreChecked blocks after_invoke = AllByRecursion (λ i. static_check class.Block blocks i.op ≡ None) after_invoke
 
--- ---- behind what was given up
+-- ---- after a part was given up
 
-abbrev told_in : Event → Option Answer
-told_in (event.Invoke call thread o a) = a
-told_in _ = None
+abbrev reported_in : Event → Option Answer
+reported_in (event.Invoke call thread o a) = a
+reported_in _ = None
 
 dead_answer : (m : Mode) (t : ℕ) (o : Op) (p : PartState) → is_dead m ≡ true → answer_in m t o p ≡ Some (answered.Gone p.failures)
 dead_answer (mode.Boot s) t o p d = absurd cc
@@ -65,18 +65,18 @@ dead_answer mode.Running t o p d = absurd cc
 dead_answer (mode.Recovering s) t o p d = absurd cc
 dead_answer (mode.Dead collected) t o p d = refl
 
--- a call that passes the static check is answered Gone
+-- a part that was given up answers Gone to a call that passes the static check
 dead_invoke : (p : PartState) (c t : ℕ) (o : Op) (a : Option Answer) → is_dead p.mode ≡ true → static_check p.spec.class p.spec.blocks o ≡ None
     → event_of p (step.Invoke t o) ≡ event.Invoke c t o a → a ≡ Some (answered.Gone p.failures)
 unfolding stepped after_invoke
 dead_invoke p c t o a d check e =
-    sym (ap told_in e) ∙ ap (λ (r : Option Answer). told_in (invoked_by p t o r).event) check ∙ dead_answer p.mode t o p d
+    sym (ap reported_in e) ∙ ap (λ (r : Option Answer). reported_in (invoked_by p t o r).event) check ∙ dead_answer p.mode t o p d
 
 own_call : (call : ℕ) (a : Option Answer) → answer_among call (one_answer call a) ≡ a
 own_call call None = refl
 own_call call (Some a) = cond-true (eqb call call) (Some a) None (eq-eqb call call refl)
 
--- it is then among the answers
+-- Gone is then among the answers
 gone_first : (c t f : ℕ) (o : Op) (a : Option Answer) (events : List Event) → a ≡ Some (answered.Gone f) → has_gone (answers_given (event.Invoke c t o a ∷ events)) ≡ true
 gone_first c t f o a events e =
     ap (λ (x : Option Answer). has_gone (and_more (or_later x (first_answer c events)) (answers_given events))) (own_call c a ∙ e)
@@ -125,7 +125,7 @@ module _ (spec : PartSpec) (block : spec.class ≡ class.Block) where
   checked_so : (p : PartState) (o : Op) → p.spec ≡ spec → static_check class.Block spec.blocks o ≡ None → static_check p.spec.class p.spec.blocks o ≡ None
   checked_so p o s c = ap (λ (x : PartSpec). static_check x.class x.blocks o) s ∙ ap (λ (x : Class). static_check x spec.blocks o) block ∙ c
 
-  -- nothing is shown where nothing more is answered Gone
+  -- nothing is shown if nothing more is answered Gone
   nothing_shown : (events : List Event) (p : PartState) → Gone p → p.spec ≡ spec → IsRunFrom p events → AreChecked spec.blocks (invocations events)
       → has_gone (answers_given events) ≡ false → (ts : List Track) → trace_from ts events ≡ []
   unfolding IsRunFrom trace_from enabled stepped
@@ -142,7 +142,7 @@ module _ (spec : PartSpec) (block : spec.class ≡ class.Block) where
       ∙ nothing_shown events (state_after p step.Stage) (gone_stays p step.Stage g r.0) (spec_after p step.Stage ∙ s) r.2 c n ts
   nothing_shown (event.Arrive frame kept ∷ events) p g s r c n ts = absurd (no_arrival p frame (ap (λ (x : PartSpec). x.class) s ∙ block) r.0)
 
-  -- nor does the device change
+  -- the device does not change either
   device_stays : (events : List Event) (p : PartState) → Gone p → p.spec ≡ spec → IsRunFrom p events → AreChecked spec.blocks (invocations events)
       → has_gone (answers_given events) ≡ false → (state_from p events).domain.device ≡ p.domain.device
   unfolding IsRunFrom state_from enabled stepped
@@ -157,18 +157,18 @@ module _ (spec : PartSpec) (block : spec.class ≡ class.Block) where
       ∙ dead_stage_device p.mode p g.0 (and_parts (is_some (stage_due p.mode)) (not (is_driven p)) r.0).0
   device_stays (event.Arrive frame kept ∷ events) p g s r c n = absurd (no_arrival p frame (ap (λ (x : PartSpec). x.class) s ∙ block) r.0)
 
--- ---- a call that was open where the part was given up
+-- ---- a call that was open when the part was given up
 
 -- a call that was invoked in these events
 record Invoked (k : ℕ) (events : List Event) : Type 0 where
   before : List Event
   thread : ℕ
   op : Op
-  told : Option Answer
-  behind : List Event
-  parts : before ++ (event.Invoke k thread op told ∷ behind) ≡ events
+  reported : Option Answer
+  after : List Event
+  parts : before ++ (event.Invoke k thread op reported ∷ after) ≡ events
 
--- the next number was given by the event
+-- if the event used up a call number, it invoked that call
 invoked_first : (k : ℕ) (e : Event) (events : List Event) (p : PartState) → IsRunFrom p (e ∷ []) → (state_after p (step_of e)).log.count ≡ p.log.count + calls_of (e ∷ [])
     → p.log.count < k → k ≤ (state_after p (step_of e)).log.count → Invoked k (e ∷ events)
 unfolding IsRunFrom
@@ -176,14 +176,14 @@ invoked_first k (event.Invoke c t o a) events p r n l m =
     let one = count_more is_invoke (event.Invoke c t o a) [] in
     let number = invoke_number p c t o a r.1 in
     let same : c ≡ k = omega arith in
-    record { before = []; thread = t; op = o; told = a; behind = events; parts = ap (λ (j : ℕ). event.Invoke j t o a ∷ events) (sym same) }
+    record { before = []; thread = t; op = o; reported = a; after = events; parts = ap (λ (j : ℕ). event.Invoke j t o a ∷ events) (sym same) }
 invoked_first k (event.Enter c t attempt a) events p r n l m = let none = count_more is_invoke (event.Enter c t attempt a) [] in absurd (omega arith)
 invoked_first k (event.Burst context c burst count end acts a failure) events p r n l m =
     let none = count_more is_invoke (event.Burst context c burst count end acts a failure) [] in absurd (omega arith)
 invoked_first k (event.Stage s answers released) events p r n l m = let none = count_more is_invoke (event.Stage s answers released) [] in absurd (omega arith)
 invoked_first k (event.Arrive frame kept) events p r n l m = let none = count_more is_invoke (event.Arrive frame kept) [] in absurd (omega arith)
 
--- a number that was given in a run was given by an invocation
+-- a call number that a run used up belongs to a call that the run invoked
 invoked_in : (k : ℕ) (events : List Event) (p : PartState) → IsRunFrom p events → p.log.count < k → k ≤ (state_from p events).log.count → Invoked k events
 unfolding IsRunFrom state_from
 invoked_in k [] p r l m = absurd (omega arith)
@@ -193,11 +193,11 @@ invoked_in k (e ∷ events) p r l m = split (nat_le k (state_after p (step_of e)
     invoked_first k e events p one (counted_from p (e ∷ []) one).calls' l (leb-true k (state_after p (step_of e)).log.count t))
     (λ t.
     let i = invoked_in k events (state_after p (step_of e)) r.2 (leb-false k (state_after p (step_of e)).log.count t) m in
-    record { before = e ∷ i.before; thread = i.thread; op = i.op; told = i.told; behind = i.behind; parts = ap (λ (l : List Event). e ∷ l) i.parts })
+    record { before = e ∷ i.before; thread = i.thread; op = i.op; reported = i.reported; after = i.after; parts = ap (λ (l : List Event). e ∷ l) i.parts })
 
-all_behind : (P : Event → Type 0) (xs ys : List Event) → AllByRecursion P (xs ++ ys) → AllByRecursion P ys
-all_behind P [] ys h = h
-all_behind P (x ∷ xs) ys h = all_behind P xs ys h.1
+all_after : (P : Event → Type 0) (xs ys : List Event) → AllByRecursion P (xs ++ ys) → AllByRecursion P ys
+all_after P [] ys h = h
+all_after P (x ∷ xs) ys h = all_after P xs ys h.1
 
 quiet_answers : (call thread : ℕ) (events : List Event) → AllByRecursion (Quiet call thread) events → AllByRecursion (λ e. answer_at call e ≡ None) events
 quiet_answers call thread [] h = tt
@@ -215,22 +215,22 @@ append_four : (xs ys zs : List Event) (x e : Event) → (xs ++ (x ∷ ys)) ++ (e
 append_four [] ys zs x e = refl
 append_four (w ∷ xs) ys zs x e = ap (λ (l : List Event). w ∷ l) (append_four xs ys zs x e)
 
-open_gone : (spec : PartSpec) (before behind : List Event) (e : Event) (c : CallEntry) (cs : List CallEntry) (failures : ℕ) → IsRun spec before
+open_gone : (spec : PartSpec) (before after : List Event) (e : Event) (c : CallEntry) (cs : List CallEntry) (failures : ℕ) → IsRun spec before
     → (state_of spec before).log.pending ≡ c ∷ cs → e ≡ event.Stage stage.Stop (gone_answers failures (c ∷ cs)) []
-    → has_gone (answers_given (before ++ (e ∷ behind))) ≡ true
-open_gone spec before behind e c cs failures run here stop =
+    → has_gone (answers_given (before ++ (e ∷ after))) ≡ true
+open_gone spec before after e c cs failures run here stop =
     let q : PartState = state_of spec before in
     let o = open_after (opening spec) before (opening_numbered spec) run in
     let first = subst (AllByRecursion (λ (x : CallEntry). AllByRecursion (Quiet x.call x.thread) before × CameFrom (opening spec).log x.call x.thread)) here o.1 in
     let small = subst (AllByRecursion (λ (x : CallEntry). x.call ≤ q.log.count)) here (small_calls q.log.count q.log.pending o.0) in
     let i : Invoked c.call before = invoked_in c.call before (opening spec) run (came c.call c.thread first.0.1) small.0 in
-    let quiet = all_behind (λ x. answer_at c.call x ≡ None) i.before (event.Invoke c.call i.thread i.op i.told ∷ i.behind)
+    let quiet = all_after (λ x. answer_at c.call x ≡ None) i.before (event.Invoke c.call i.thread i.op i.reported ∷ i.after)
     (subst (AllByRecursion (λ x. answer_at c.call x ≡ None)) (sym i.parts) (quiet_answers c.call c.thread before first.0.0)) in
-    let told : answer_at c.call e ≡ Some (answered.Gone failures) =
+    let reported : answer_at c.call e ≡ Some (answered.Gone failures) =
     ap (answer_at c.call) stop ∙ cond-true (eqb c.call c.call) (Some (answered.Gone failures)) _ (eq-eqb c.call c.call refl) in
-    subst (λ (l : List Event). has_gone (answers_given (l ++ (e ∷ behind))) ≡ true) i.parts
-    (ap (λ (l : List Event). has_gone (answers_given l)) (append_four i.before i.behind behind (event.Invoke c.call i.thread i.op i.told) e)
-    ∙ gone_given c.call i.thread i.op i.told i.before i.behind behind e failures quiet told)
+    subst (λ (l : List Event). has_gone (answers_given (l ++ (e ∷ after))) ≡ true) i.parts
+    (ap (λ (l : List Event). has_gone (answers_given l)) (append_four i.before i.after after (event.Invoke c.call i.thread i.op i.reported) e)
+    ∙ gone_given c.call i.thread i.op i.reported i.before i.after after e failures quiet reported)
   where
     came : (n t : ℕ) → CameFrom (opening spec).log n t → (opening spec).log.count < n
     came n t (inl k) = absurd (subst (λ (xs : List CallEntry). HasEntry xs n t) (opening_none spec).1 k)
@@ -250,43 +250,43 @@ invoked_parts (event.Burst context c burst count end acts a failure ∷ xs) ys =
 invoked_parts (event.Stage s answers released ∷ xs) ys = invoked_parts xs ys
 invoked_parts (event.Arrive frame kept ∷ xs) ys = invoked_parts xs ys
 
-checked_behind : (blocks : ℕ) (xs ys : List Invocation) → AreChecked blocks (xs ++ ys) → AreChecked blocks ys
-checked_behind blocks [] ys h = h
-checked_behind blocks (x ∷ xs) ys h = checked_behind blocks xs ys h.1
+checked_after : (blocks : ℕ) (xs ys : List Invocation) → AreChecked blocks (xs ++ ys) → AreChecked blocks ys
+checked_after blocks [] ys h = h
+checked_after blocks (x ∷ xs) ys h = checked_after blocks xs ys h.1
 
--- what is answered Gone behind is among the answers
-gone_behind : (xs ys : List Event) → has_gone (answers_given ys) ≡ true → has_gone (answers_given (xs ++ ys)) ≡ true
-gone_behind [] ys h = h
-gone_behind (event.Invoke c t o a ∷ xs) ys h = more_gone (first_answer c (event.Invoke c t o a ∷ (xs ++ ys))) (answers_given (xs ++ ys)) (gone_behind xs ys h)
-gone_behind (event.Enter c t attempt a ∷ xs) ys h = gone_behind xs ys h
-gone_behind (event.Burst context c burst count end acts a failure ∷ xs) ys h = gone_behind xs ys h
-gone_behind (event.Stage s answers released ∷ xs) ys h = gone_behind xs ys h
-gone_behind (event.Arrive frame kept ∷ xs) ys h = gone_behind xs ys h
+-- if Gone is among the later answers, it is among all of them
+gone_after : (xs ys : List Event) → has_gone (answers_given ys) ≡ true → has_gone (answers_given (xs ++ ys)) ≡ true
+gone_after [] ys h = h
+gone_after (event.Invoke c t o a ∷ xs) ys h = more_gone (first_answer c (event.Invoke c t o a ∷ (xs ++ ys))) (answers_given (xs ++ ys)) (gone_after xs ys h)
+gone_after (event.Enter c t attempt a ∷ xs) ys h = gone_after xs ys h
+gone_after (event.Burst context c burst count end acts a failure ∷ xs) ys h = gone_after xs ys h
+gone_after (event.Stage s answers released ∷ xs) ys h = gone_after xs ys h
+gone_after (event.Arrive frame kept ∷ xs) ys h = gone_after xs ys h
 
--- a Stop that answers nothing, and what is behind it, shows nothing
-stop_shows : (spec : PartSpec) → spec.class ≡ class.Block → (q : PartState) (behind : List Event) (ts : List Track) (e : Event)
-    → e ≡ event.Stage stage.Stop [] [] → IsRunFrom q (e ∷ behind) → AreChecked spec.blocks (invocations (e ∷ behind))
-    → has_gone (answers_given (e ∷ behind)) ≡ false → Gone (state_after q (step_of e)) → (state_after q (step_of e)).spec ≡ spec
-    → trace_from ts (e ∷ behind) ≡ []
+-- a Stop that answers nothing, and the events after it, show nothing
+stop_shows : (spec : PartSpec) → spec.class ≡ class.Block → (q : PartState) (after : List Event) (ts : List Track) (e : Event)
+    → e ≡ event.Stage stage.Stop [] [] → IsRunFrom q (e ∷ after) → AreChecked spec.blocks (invocations (e ∷ after))
+    → has_gone (answers_given (e ∷ after)) ≡ false → Gone (state_after q (step_of e)) → (state_after q (step_of e)).spec ≡ spec
+    → trace_from ts (e ∷ after) ≡ []
 unfolding IsRunFrom trace_from
-stop_shows spec block q behind ts e h =
-    subst (λ (x : Event). IsRunFrom q (x ∷ behind) → AreChecked spec.blocks (invocations (x ∷ behind)) → has_gone (answers_given (x ∷ behind)) ≡ false
-    → Gone (state_after q (step_of x)) → (state_after q (step_of x)).spec ≡ spec → trace_from ts (x ∷ behind) ≡ [])
-    (sym h) (λ r c n g s. nothing_shown spec block behind (state_after q step.Stage) g s r.2 c n ts)
+stop_shows spec block q after ts e h =
+    subst (λ (x : Event). IsRunFrom q (x ∷ after) → AreChecked spec.blocks (invocations (x ∷ after)) → has_gone (answers_given (x ∷ after)) ≡ false
+    → Gone (state_after q (step_of x)) → (state_after q (step_of x)).spec ≡ spec → trace_from ts (x ∷ after) ≡ [])
+    (sym h) (λ r c n g s. nothing_shown spec block after (state_after q step.Stage) g s r.2 c n ts)
 
--- a Stop that answers nothing, and what is behind it, leaves the device alone
-stop_device : (spec : PartSpec) → spec.class ≡ class.Block → (q : PartState) (behind : List Event) (e : Event) → e ≡ event.Stage stage.Stop [] []
-    → IsRunFrom q (e ∷ behind) → AreChecked spec.blocks (invocations (e ∷ behind)) → has_gone (answers_given (e ∷ behind)) ≡ false
+-- a Stop that answers nothing, and the events after it, leave the device unchanged
+stop_device : (spec : PartSpec) → spec.class ≡ class.Block → (q : PartState) (after : List Event) (e : Event) → e ≡ event.Stage stage.Stop [] []
+    → IsRunFrom q (e ∷ after) → AreChecked spec.blocks (invocations (e ∷ after)) → has_gone (answers_given (e ∷ after)) ≡ false
     → Gone (state_after q (step_of e)) → (state_after q (step_of e)).spec ≡ spec → (state_after q (step_of e)).domain.device ≡ q.domain.device
-    → (state_from q (e ∷ behind)).domain.device ≡ q.domain.device
+    → (state_from q (e ∷ after)).domain.device ≡ q.domain.device
 unfolding IsRunFrom state_from
-stop_device spec block q behind e h =
-    subst (λ (x : Event). IsRunFrom q (x ∷ behind) → AreChecked spec.blocks (invocations (x ∷ behind)) → has_gone (answers_given (x ∷ behind)) ≡ false
+stop_device spec block q after e h =
+    subst (λ (x : Event). IsRunFrom q (x ∷ after) → AreChecked spec.blocks (invocations (x ∷ after)) → has_gone (answers_given (x ∷ after)) ≡ false
     → Gone (state_after q (step_of x)) → (state_after q (step_of x)).spec ≡ spec → (state_after q (step_of x)).domain.device ≡ q.domain.device
-    → (state_from q (x ∷ behind)).domain.device ≡ q.domain.device)
-    (sym h) (λ r c n g s d. device_stays spec block behind (state_after q step.Stage) g s r.2 c n ∙ d)
+    → (state_from q (x ∷ after)).domain.device ≡ q.domain.device)
+    (sym h) (λ r c n g s d. device_stays spec block after (state_after q step.Stage) g s r.2 c n ∙ d)
 
--- events show one run of the never-failing disk, whose blocks the part's medium has where no Write is open
+-- events show one run of the never-failing disk, whose blocks are those of the part's medium if no Write is open
 pub record ShowsOne (spec : PartSpec) (seen : List Event) : Type 0 where
   pub device : Ideal
   pub shows : ShowsDevice spec seen device
@@ -311,8 +311,8 @@ shows_one spec seen block run contract checked none = split (is_dead (state_of s
         q : PartState
         q = state_of spec k.before
 
-        parts : IsRun spec k.before × IsRunFrom q (k.event ∷ k.behind)
-        parts = run_parts (opening spec) k.before (k.event ∷ k.behind) (subst (IsRun spec) (sym k.parts) run)
+        parts : IsRun spec k.before × IsRunFrom q (k.event ∷ k.after)
+        parts = run_parts (opening spec) k.before (k.event ∷ k.after) (subst (IsRun spec) (sym k.parts) run)
 
         stops : StopsAll q (stepped q (step_of k.event))
         stops = gives_up q (step_of k.event) k.alive k.dead
@@ -323,7 +323,7 @@ shows_one spec seen block run contract checked none = split (is_dead (state_of s
         before : ShowsOne spec k.before
         before = shows_kept spec k.before (record {
           run = parts.0;
-          contract = unbroken_before 1 (known_first spec.class spec.blocks) k.before (k.event ∷ k.behind)
+          contract = unbroken_before 1 (known_first spec.class spec.blocks) k.before (k.event ∷ k.after)
               (ap (λ (l : List Event). first_break spec.class spec.blocks l) k.parts ∙ contract);
           alive = k.alive;
         })
@@ -334,33 +334,33 @@ shows_one spec seen block run contract checked none = split (is_dead (state_of s
         same : (state_after q (step_of k.event)).spec ≡ spec
         same = spec_after q (step_of k.event) ∙ run_spec spec k.before parts.0
 
-        checked_rest : AreChecked spec.blocks (invocations (k.event ∷ k.behind))
-        checked_rest = checked_behind spec.blocks (invocations k.before) (invocations (k.event ∷ k.behind))
-            (subst (AreChecked spec.blocks) (ap invocations (sym k.parts) ∙ invoked_parts k.before (k.event ∷ k.behind)) checked)
+        checked_rest : AreChecked spec.blocks (invocations (k.event ∷ k.after))
+        checked_rest = checked_after spec.blocks (invocations k.before) (invocations (k.event ∷ k.after))
+            (subst (AreChecked spec.blocks) (ap invocations (sym k.parts) ∙ invoked_parts k.before (k.event ∷ k.after)) checked)
 
-        none_rest : has_gone (answers_given (k.event ∷ k.behind)) ≡ false
-        none_rest = split (has_gone (answers_given (k.event ∷ k.behind)))
-            (λ t. absurd (true≢false (sym (gone_behind k.before (k.event ∷ k.behind) t) ∙ ap (λ (l : List Event). has_gone (answers_given l)) k.parts ∙ none)))
+        none_rest : has_gone (answers_given (k.event ∷ k.after)) ≡ false
+        none_rest = split (has_gone (answers_given (k.event ∷ k.after)))
+            (λ t. absurd (true≢false (sym (gone_after k.before (k.event ∷ k.after) t) ∙ ap (λ (l : List Event). has_gone (answers_given l)) k.parts ∙ none)))
             (λ t. t)
 
         stops_so : q.log.pending ≡ [] → k.event ≡ event.Stage stage.Stop [] []
         stops_so h = event_is ∙ ap (λ (xs : List CallEntry). event.Stage stage.Stop (gone_answers q.failures xs) []) h
 
-        nothing : q.log.pending ≡ [] → (ts : List Track) → trace_from ts (k.event ∷ k.behind) ≡ []
-        nothing h ts = stop_shows spec block q k.behind ts k.event (stops_so h) parts.1 checked_rest none_rest gone same
+        nothing : q.log.pending ≡ [] → (ts : List Track) → trace_from ts (k.event ∷ k.after) ≡ []
+        nothing h ts = stop_shows spec block q k.after ts k.event (stops_so h) parts.1 checked_rest none_rest gone same
 
         same_trace : q.log.pending ≡ [] → trace seen ≡ trace k.before
-        same_trace h = ap (trace_from []) (sym k.parts) ∙ trace_ends k.before (k.event ∷ k.behind) [] (nothing h)
+        same_trace h = ap (trace_from []) (sym k.parts) ∙ trace_ends k.before (k.event ∷ k.after) [] (nothing h)
 
         same_device : q.log.pending ≡ [] → (state_of spec seen).domain.device ≡ q.domain.device
         same_device h =
             ap (λ (l : List Event). (state_of spec l).domain.device) (sym k.parts)
-            ∙ ap (λ (p : PartState). p.domain.device) (state_parts (opening spec) k.before (k.event ∷ k.behind))
-            ∙ stop_device spec block q k.behind k.event (stops_so h) parts.1 checked_rest none_rest gone same stops.2
+            ∙ ap (λ (p : PartState). p.domain.device) (state_parts (opening spec) k.before (k.event ∷ k.after))
+            ∙ stop_device spec block q k.after k.event (stops_so h) parts.1 checked_rest none_rest gone same stops.2
 
         by_pending : (xs : List CallEntry) → q.log.pending ≡ xs → ShowsOne spec seen
         by_pending (c ∷ cs) h = absurd (true≢false (sym
-            (open_gone spec k.before k.behind k.event c cs q.failures parts.0 h (event_is ∙ ap (λ (xs : List CallEntry). event.Stage stage.Stop (gone_answers q.failures xs) []) h))
+            (open_gone spec k.before k.after k.event c cs q.failures parts.0 h (event_is ∙ ap (λ (xs : List CallEntry). event.Stage stage.Stop (gone_answers q.failures xs) []) h))
             ∙ ap (λ (l : List Event). has_gone (answers_given l)) k.parts ∙ none))
         by_pending [] h = record {
           device = before.device;

@@ -1,4 +1,4 @@
--- Over all exchanges of a mirror the rule takes all answers of both journals, and gives the mirror's.
+-- Over all exchanges of a mirror, the rule uses all answers in both journals and gives the mirror's answers.
 use Rattle.std.proofs.Common.{◌≡◌, ℕ, suc, Some, List, [], ◌∷◌, ◌++◌, length, refl, sym, ap, subst, ◌∙◌, arith}
 use Rattle.std.specs.Prelude.{option_and_then}
 use Rattle.nook_data.specs.declared.calls.Answer.{Answer}
@@ -58,5 +58,5 @@ run_folds scenario left right answers h =
           (same_given (left_events h.exchanges) left f.left_all h.left_goes_on)
           ∙ ap (λ (rs : List Answer). mirrored (mirror_blocks scenario) both_present (ops_of h.exchanges) (answers_given (left_events h.exchanges)) rs)
           (same_given (right_events h.exchanges) right f.right_all h.right_goes_on)
-          ∙ f.rule ∙ ap (λ (told : List MirrorAnswer). Some (record { present = h.present; answers = told })) h.answers_are,
+          ∙ f.rule ∙ ap (λ (reported : List MirrorAnswer). Some (record { present = h.present; answers = reported })) h.answers_are,
     )

@@ -1,4 +1,4 @@
--- The event that gives a part up, and which answers are Gone.
+-- The event at which a part is given up, and which answers are Gone.
 use Rattle.std.proofs.Common.{◌≡◌, ℕ, suc, ◌+◌, ◌==◌, if◌then◌else◌, Bool, true, false, Option, Some, None, Result, Ok, Err, List, [], ◌∷◌, ◌++◌, length, refl, sym, ap, ◌∙◌, true≢false}
 use Rattle.std.specs.List.{AllByRecursion, list_any}
 use Rattle.std.proofs.lemmas.Bool.{or_right}
@@ -46,7 +46,7 @@ use Rattle.part_defs.specs.Steps.{after_arrival, burst_stepped, is_driven, stepp
 use Rattle.machine_defs.specs.BurstFaults.{faults_of_burst}
 use Rattle.promise_defs.specs.Trace.{Track, Visible, shown, trace_from, tracks_after}
 use Rattle.part_laws.specs.Facts.{is_dead}
-use Rattle.part_laws.proofs.Places.{split}
+use Rattle.part_laws.proofs.Indices.{split}
 use Rattle.part_laws.proofs.Stages.{with_mode}
 use Rattle.mirror_block.specs.Sides.{and_more, answers_given, first_answer, or_later}
 
@@ -60,32 +60,32 @@ is_gone a = false
 abbrev pub has_gone : List Answer → Bool
 has_gone answers = list_any is_gone answers
 
--- a later answer stays among the answers
+-- Gone stays among the answers if another one is added
 pub more_gone : (a : Option Answer) (answers : List Answer) → has_gone answers ≡ true → has_gone (and_more a answers) ≡ true
 more_gone None answers h = h
 more_gone (Some a) answers h = or_right (is_gone a) (has_gone answers) h
 
 -- ---- the contract
 
-unbroken : (cs : List Clause) (place : ℕ) (later : Option Break) → break_or place cs later ≡ None → (cs ≡ []) × (later ≡ None)
-unbroken [] place later h = (refl, h)
-unbroken (c ∷ cs) place later h = absurd cc
+unbroken : (cs : List Clause) (index : ℕ) (later : Option Break) → break_or index cs later ≡ None → (cs ≡ []) × (later ≡ None)
+unbroken [] index later h = (refl, h)
+unbroken (c ∷ cs) index later h = absurd cc
 
--- a journal without a break has none in what begins it
-pub unbroken_before : (place : ℕ) (k : Known) (xs ys : List Event) → break_from place k (xs ++ ys) ≡ None → break_from place k xs ≡ None
+-- a journal without a break has none in its prefixes
+pub unbroken_before : (index : ℕ) (k : Known) (xs ys : List Event) → break_from index k (xs ++ ys) ≡ None → break_from index k xs ≡ None
 unfolding break_from
-unbroken_before place k [] ys h = refl
-unbroken_before place k (e ∷ xs) ys h =
-    let u = unbroken (broken k e) place (break_from (suc place) (known_after k e) (xs ++ ys)) h in
-    ap (λ (cs : List Clause). break_or place cs (break_from (suc place) (known_after k e) xs)) u.0 ∙ unbroken_before (suc place) (known_after k e) xs ys u.1
+unbroken_before index k [] ys h = refl
+unbroken_before index k (e ∷ xs) ys h =
+    let u = unbroken (broken k e) index (break_from (suc index) (known_after k e) (xs ++ ys)) h in
+    ap (λ (cs : List Clause). break_or index cs (break_from (suc index) (known_after k e) xs)) u.0 ∙ unbroken_before (suc index) (known_after k e) xs ys u.1
 
--- ---- where a part was given up
+-- ---- when a part was given up
 
 pub record GivenUp (p : PartState) (events : List Event) : Type 0 where
   pub before : List Event
   pub event : Event
-  pub behind : List Event
-  pub parts : before ++ event ∷ behind ≡ events
+  pub after : List Event
+  pub parts : before ++ event ∷ after ≡ events
   pub alive : is_dead (state_from p before).mode ≡ false
   pub dead : is_dead (state_after (state_from p before) (step_of event)).mode ≡ true
 
@@ -93,14 +93,14 @@ pub given_up_in : (events : List Event) (p : PartState) → is_dead p.mode ≡ f
 unfolding state_from
 given_up_in [] p a d = absurd cc
 given_up_in (e ∷ events) p a d = split (is_dead (state_after p (step_of e)).mode)
-    (λ t. record { before = []; event = e; behind = events; parts = refl; alive = a; dead = t })
+    (λ t. record { before = []; event = e; after = events; parts = refl; alive = a; dead = t })
     (λ t.
     let k = given_up_in events (state_after p (step_of e)) t d in
-    record { before = e ∷ k.before; event = k.event; behind = k.behind; parts = ap (λ (l : List Event). e ∷ l) k.parts; alive = k.alive; dead = k.dead })
+    record { before = e ∷ k.before; event = k.event; after = k.after; parts = ap (λ (l : List Event). e ∷ l) k.parts; alive = k.alive; dead = k.dead })
 
 -- ---- what is shown
 
--- where nothing is shown behind events, the trace ends with them
+-- if later events show nothing, the trace ends before them
 pub trace_ends : (xs ys : List Event) (ts : List Track) → ((us : List Track) → trace_from us ys ≡ []) → trace_from ts (xs ++ ys) ≡ trace_from ts xs
 unfolding trace_from
 trace_ends [] ys ts h = h ts
@@ -108,28 +108,28 @@ trace_ends (e ∷ xs) ys ts h = ap (λ (l : List Visible). shown e (tracks_after
 
 -- ---- the first answer to a call
 
--- events that do not answer a call are passed over
-first_behind : (call : ℕ) (xs ys : List Event) → AllByRecursion (λ e. answer_at call e ≡ None) xs → first_answer call (xs ++ ys) ≡ first_answer call ys
-first_behind call [] ys h = refl
-first_behind call (e ∷ xs) ys h =
-    ap (λ (o : Option Answer). or_later o (first_answer call (xs ++ ys))) h.0 ∙ first_behind call xs ys h.1
+-- events that do not answer a call are skipped
+first_after : (call : ℕ) (xs ys : List Event) → AllByRecursion (λ e. answer_at call e ≡ None) xs → first_answer call (xs ++ ys) ≡ first_answer call ys
+first_after call [] ys h = refl
+first_after call (e ∷ xs) ys h =
+    ap (λ (o : Option Answer). or_later o (first_answer call (xs ++ ys))) h.0 ∙ first_after call xs ys h.1
 
--- a call that is invoked and first answered Gone is among the answers
+-- if a call is invoked and its first answer is Gone, Gone is among the answers
 pub gone_given : (call t : ℕ) (o : Op) (a : Option Answer) (xs ys zs : List Event) (e : Event) (failures : ℕ)
     → AllByRecursion (λ e. answer_at call e ≡ None) (event.Invoke call t o a ∷ ys) → answer_at call e ≡ Some (answered.Gone failures)
     → has_gone (answers_given (xs ++ (event.Invoke call t o a ∷ (ys ++ (e ∷ zs))))) ≡ true
-gone_given call t o a [] ys zs e failures quiet told =
+gone_given call t o a [] ys zs e failures quiet reported =
     ap (λ (x : Option Answer). has_gone (and_more x (answers_given (ys ++ e ∷ zs))))
-    (first_behind call (event.Invoke call t o a ∷ ys) (e ∷ zs) quiet ∙ ap (λ (x : Option Answer). or_later x (first_answer call zs)) told)
-gone_given call t o a (event.Invoke c u p b ∷ xs) ys zs e failures quiet told =
+    (first_after call (event.Invoke call t o a ∷ ys) (e ∷ zs) quiet ∙ ap (λ (x : Option Answer). or_later x (first_answer call zs)) reported)
+gone_given call t o a (event.Invoke c u p b ∷ xs) ys zs e failures quiet reported =
     more_gone (first_answer c (event.Invoke c u p b ∷ (xs ++ (event.Invoke call t o a ∷ (ys ++ (e ∷ zs))))))
-    (answers_given (xs ++ (event.Invoke call t o a ∷ (ys ++ (e ∷ zs))))) (gone_given call t o a xs ys zs e failures quiet told)
-gone_given call t o a (event.Enter c u attempt b ∷ xs) ys zs e failures quiet told = gone_given call t o a xs ys zs e failures quiet told
-gone_given call t o a (event.Burst context c burst count end acts b failure ∷ xs) ys zs e failures quiet told = gone_given call t o a xs ys zs e failures quiet told
-gone_given call t o a (event.Stage s answers released ∷ xs) ys zs e failures quiet told = gone_given call t o a xs ys zs e failures quiet told
-gone_given call t o a (event.Arrive frame kept ∷ xs) ys zs e failures quiet told = gone_given call t o a xs ys zs e failures quiet told
+    (answers_given (xs ++ (event.Invoke call t o a ∷ (ys ++ (e ∷ zs))))) (gone_given call t o a xs ys zs e failures quiet reported)
+gone_given call t o a (event.Enter c u attempt b ∷ xs) ys zs e failures quiet reported = gone_given call t o a xs ys zs e failures quiet reported
+gone_given call t o a (event.Burst context c burst count end acts b failure ∷ xs) ys zs e failures quiet reported = gone_given call t o a xs ys zs e failures quiet reported
+gone_given call t o a (event.Stage s answers released ∷ xs) ys zs e failures quiet reported = gone_given call t o a xs ys zs e failures quiet reported
+gone_given call t o a (event.Arrive frame kept ∷ xs) ys zs e failures quiet reported = gone_given call t o a xs ys zs e failures quiet reported
 
--- ---- the step that gives a part up
+-- ---- the step at which a part is given up
 
 served_mode : (number context : ℕ) (p : PartState) (r : Result Service BadParam) → is_dead p.mode ≡ false → is_dead (serve_by number context p r).state.mode ≡ false
 unfolding fails
@@ -156,7 +156,7 @@ reply_mode status p (Some c) h = by_accept (accept c.op status)
     by_accept (accepts.IoError block) = h
     by_accept (accepts.Fail cause) = refl
 
--- a choice by a test, where each way holds
+-- a choice by a test has a property if both branches have it
 by_either : {X : Type 0} (P : X → Type 0) (b : Bool) (x y : X) → P x → P y → P (if b then x else y)
 by_either P true x y h k = h
 by_either P false x y h k = k
@@ -176,7 +176,7 @@ crossed_lives context (ends.Reply status) p h =
     (failed_crossing p (end.Reply status) (shadow_fault status (stage_in p.mode))) (next_mode_lives p.mode p h) refl)
     (reply_mode status p (call_of_thread context p.log.pending) h)
 
--- a step is a Stop that answers all open calls Gone; nothing is driven behind it, and the device is as it was
+-- a step is a Stop that answers Gone to all open calls; nothing is driven after it, and the device is unchanged
 abbrev pub StopsAll : PartState → Stepped → Type 0
 StopsAll p t = (t.event ≡ event.Stage stage.Stop (gone_answers p.failures p.log.pending) []) × (is_driven t.state ≡ false) × (t.state.domain.device ≡ p.domain.device)
 
@@ -218,7 +218,7 @@ invoke_mode p t o (Some a) = refl
 admit_mode : (p : PartState) (c : CallEntry) (a : Admit) → (after_admit p c a).state.mode ≡ p.mode
 admit_mode p c (admits.Reply a) = refl
 admit_mode p c admits.TakeFrame = refl
-admit_mode p c (admits.Enter place) = refl
+admit_mode p c (admits.Enter index) = refl
 
 enter_mode : (p : PartState) (t : ℕ) (o : Option CallEntry) → (entered_by p t o).state.mode ≡ p.mode
 enter_mode p t None = refl
@@ -227,7 +227,7 @@ enter_mode p t (Some c) = admit_mode p c (admit p.spec.class t c.op p.log.holder
 lives_and_dies : (m n : Mode) → n ≡ m → is_dead m ≡ false → is_dead n ≡ true → ⊥
 lives_and_dies m n e a d = true≢false (sym d ∙ ap is_dead e ∙ a)
 
--- only a Stop gives a part up
+-- a part is given up only by a Stop
 pub gives_up : (p : PartState) (s : Step) → is_dead p.mode ≡ false → is_dead (stepped p s).state.mode ≡ true → StopsAll p (stepped p s)
 unfolding stepped after_invoke after_enter burst_stepped after_arrival
 gives_up p (step.Invoke t o) a d = absurd (lives_and_dies p.mode (stepped p (step.Invoke t o)).state.mode (invoke_mode p t o (static_check p.spec.class p.spec.blocks o)) a d)

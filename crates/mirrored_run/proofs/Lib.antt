@@ -1,5 +1,5 @@
 pub mod Adding
-pub mod Behind
+pub mod Following
 pub mod ClassRuns
 pub mod Folding
 pub mod GivingUp

@@ -1,4 +1,4 @@
--- The answers of a mirror are those of one plain disk while both drivers keep the contract and some side is left, and each
+-- The answers of a mirror are those of one plain disk while both drivers keep the contract and a side is left, and each
 -- side that is present at the end has that disk.
 use Rattle.std.proofs.Common.{◌≡◌, ◌⊎◌, inl, inr, ℕ, ◌||◌, Bool, true, false, None, Some, List, [], ◌∷◌, ◌++◌, map, refl, sym, ap, subst, ◌∙◌, append-nil, append_assoc, true≢false}
 use Rattle.std.specs.List.{list_any}
@@ -33,7 +33,7 @@ use Rattle.mirror_block.proofs.Plain.{nothing_more, same_device}
 use Rattle.mirrored_run.specs.Exchanges.{ArePlain, Exchange, answers_of, left_events, right_events}
 use Rattle.mirrored_run.specs.Mirrors.{end_medium, is_lost}
 use Rattle.mirrored_run.proofs.Adding.{AllAnswered, Grows, answered_parts, given_parts, others_invoke, own_checked, same_given}
-use Rattle.mirrored_run.proofs.Behind.{Exchanged, checked_parts, left_seen, right_seen, same_sides, stays_on}
+use Rattle.mirrored_run.proofs.Following.{Exchanged, checked_parts, left_seen, right_seen, same_sides, stays_on}
 use Rattle.mirrored_run.proofs.ClassRuns.{AreChecked, ShowsOne, invoked_parts, one_run, shows_one}
 use Rattle.mirrored_run.proofs.GivingUp.{has_gone, unbroken_before}
 use Rattle.mirrored_run.proofs.Stepping.{StaysBy, step_checks, step_stays}
@@ -41,7 +41,7 @@ use Rattle.threaded_run.specs.Leaving.{GoesOn}
 
 -- ---- one side
 
--- each call that the side was asked is answered and passed the static check, and while the side is there none Gone
+-- each call that the side was asked is answered and passed the static check; none is answered Gone while it is present
 pub record IsClean (size : ℕ) (present : Bool) (seen : List Event) : Type 0 where
   pub all : AllAnswered seen
   pub checked : AreChecked size (invocations seen)
@@ -65,7 +65,7 @@ clean_next size was is old new o more g stays check c = subst (IsClean size is) 
     by_check (inl k) = inl k
     by_check (inr k) = inr (g.given ∙ k)
 
--- the driver kept the contract over a journal that begins so
+-- the driver kept the contract in these events
 abbrev pub Unbroken : PartSpec → List Event → Type 0
 Unbroken s seen = first_break s.class s.blocks seen ≡ None
 
@@ -126,7 +126,7 @@ abbrev served : List Exchange → List (Op × MirrorAnswer)
 served xs = map (λ x. (x.op, x.answer)) xs
 
 module _ {D : Type 0} (spec : D → PartSpec) where
-  -- what a mirror between has seen begins what its sides have seen at the end
+  -- what a mirror in between has seen is a prefix of what its sides have seen at the end
   record Begins (l r : List Event) (m : MirrorView D) : Type 0 where
     left : IsPrefix m.left.seen l
     right : IsPrefix m.right.seen r
@@ -162,9 +162,9 @@ module _ {D : Type 0} (spec : D → PartSpec) where
         are_served l r h.0 xs new h.5 clean b (rest_kept (is_lost x.answer) (list_any is_lost (answers_of xs)) n),
       )
 
-  clean_behind : (old : MirrorView D) (xs : List Exchange) (new : MirrorView D) → Exchanged spec old xs new → AreClean old → AreClean new
-  clean_behind old [] new h c = subst AreClean (sym h) c
-  clean_behind old (x ∷ xs) new h c = clean_behind h.0 xs new h.5 (clean_after old h.0 x h.1 h.3 h.4 c)
+  clean_following : (old : MirrorView D) (xs : List Exchange) (new : MirrorView D) → Exchanged spec old xs new → AreClean old → AreClean new
+  clean_following old [] new h c = subst AreClean (sym h) c
+  clean_following old (x ∷ xs) new h c = clean_following h.0 xs new h.5 (clean_after old h.0 x h.1 h.3 h.4 c)
 
   clean_at_first : (m : MirrorView D) → m.left.seen ≡ [] → m.right.seen ≡ [] → AreClean m
   clean_at_first m fl fr = record {
@@ -201,7 +201,7 @@ no_writes : (xs : List CallEntry) → OnlyOp (Read 0 1) xs → list_any is_write
 no_writes [] h = refl
 no_writes (x ∷ xs) h = ap (λ (b : Bool). b || list_any is_write_call xs) (ap is_write h.0) ∙ no_writes xs h.1
 
--- the disk that a side's seat saw is what the medium has where the part has no step left
+-- when the part has no step left, its medium has the disk that the side's seat saw
 side_ends : (s : PartSpec) (size : ℕ) (v : DeskView) (journal : List Event) (disk : List (List ℕ)) → IsSide s size false v → IsClean size true v.seen
     → GoesOn v.seen journal → IsRun s journal → Unbroken s journal → ShowsDisk size v.seen disk → end_medium s journal ≡ disk
 side_ends s size v journal disk side clean g run kept is =
@@ -226,14 +226,14 @@ side_ends s size v journal disk side clean g run kept is =
     let writes : has_write (state_of s journal) ≡ false = ap has_write end ∙ no_writes (state_from (state_of s v.seen) g.rest).log.pending only in
     one.medium writes ∙ ap (λ (d : Ideal). d.blocks) same ∙ is.disk_is
 
--- so it is of each side of a mirror that is present behind exchanges
+-- the same for each side of a mirror that is present after exchanges
 pub left_ends : {D : Type 0} (spec : D → PartSpec) (old : MirrorView D) (xs : List Exchange) (new : MirrorView D) (journal : List Event) (disk : List (List ℕ))
     → Exchanged spec old xs new → old.left.seen ≡ [] → old.right.seen ≡ [] → IsMirror spec new → new.stopped ≡ false → IsDisk new disk
     → GoesOn new.left.seen journal → IsRun (spec new.left_desk) journal → Unbroken (spec new.left_desk) journal → new.present.left ≡ true
     → end_medium (spec new.left_desk) journal ≡ disk
 left_ends spec old xs new journal disk h fl fr m goes is g run kept here =
     side_ends (spec new.left_desk) new.blocks new.left journal disk (subst (λ (b : Bool). IsSide (spec new.left_desk) new.blocks b new.left) goes m.left)
-    (subst (λ (b : Bool). IsClean new.blocks b new.left.seen) here (clean_behind spec old xs new h (clean_at_first spec old fl fr)).left) g run kept (is.left here)
+    (subst (λ (b : Bool). IsClean new.blocks b new.left.seen) here (clean_following spec old xs new h (clean_at_first spec old fl fr)).left) g run kept (is.left here)
 
 pub right_ends : {D : Type 0} (spec : D → PartSpec) (old : MirrorView D) (xs : List Exchange) (new : MirrorView D) (journal : List Event) (disk : List (List ℕ))
     → Exchanged spec old xs new → old.left.seen ≡ [] → old.right.seen ≡ [] → IsMirror spec new → new.stopped ≡ false → IsDisk new disk
@@ -241,4 +241,4 @@ pub right_ends : {D : Type 0} (spec : D → PartSpec) (old : MirrorView D) (xs :
     → end_medium (spec new.right_desk) journal ≡ disk
 right_ends spec old xs new journal disk h fl fr m goes is g run kept here =
     side_ends (spec new.right_desk) new.blocks new.right journal disk (subst (λ (b : Bool). IsSide (spec new.right_desk) new.blocks b new.right) goes m.right)
-    (subst (λ (b : Bool). IsClean new.blocks b new.right.seen) here (clean_behind spec old xs new h (clean_at_first spec old fl fr)).right) g run kept (is.right here)
+    (subst (λ (b : Bool). IsClean new.blocks b new.right.seen) here (clean_following spec old xs new h (clean_at_first spec old fl fr)).right) g run kept (is.right here)

@@ -1,4 +1,4 @@
--- A mirror that serves the script of one thread comes to no part that has all its calls.
+-- A mirror that serves the script of one thread never meets a part that has all the calls it may have.
 use Rattle.std.proofs.Common.{◌≡◌, ℕ, zero, suc, ◌+◌, ◌<◌, ◌≤◌, true, List, [], ◌∷◌, ◌++◌, get_or, length, map, take, refl, sym, ap, subst, ◌∙◌, arith, add-one}
 use Rattle.std.specs.List.{list_all}
 use Rattle.std.proofs.lemmas.Bool.{and_parts}
@@ -11,7 +11,7 @@ use Rattle.mirror_block.specs.Mirrors.{IsMirrorAnswer, IsMirror, MirrorView}
 use Rattle.mirror_block.specs.Rule.{is_disk_op}
 use Rattle.mirrored_run.specs.Mirrors.{is_mirrored_op}
 use Rattle.mirrored_run.specs.Serving.{AreServedBy, HasAsked}
-use Rattle.mirrored_run.proofs.Behind.{asked_so, served_more}
+use Rattle.mirrored_run.proofs.Following.{asked_so, served_more}
 
 -- ---- the operations so far
 

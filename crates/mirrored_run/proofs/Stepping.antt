@@ -1,5 +1,5 @@
--- One step of a mirror's rule that uses up the answers it is given: who was asked, who stays, and that the answers behind
--- these are left over.
+-- One step of a mirror's rule that uses up the answers it is given: who was asked, who stays, and that later answers
+-- are left over.
 use Rattle.std.proofs.Common.{◌≡◌, ◌⊎◌, inl, inr, ℕ, ◌||◌, not, is_some, Bool, true, false, Option, Some, None, List, [], ◌∷◌, ◌++◌, refl, sym, ap, subst, ◌∙◌, true≢false}
 use Rattle.std.specs.Prelude.{if◌then◌else◌, option_and_then}
 use Rattle.std.proofs.lemmas.Bool.{and_parts}
@@ -11,14 +11,14 @@ use Rattle.nook_data.specs.declared.mirror.MirrorAnswer.TheVariants as mirror
 use Rattle.nook_data.specs.declared.calls.Op.{Op}
 use Rattle.nook_data.specs.declared.calls.Op.TheVariants.{Read, Write, Send, Recv, Open, Play, Close, Get, Set}
 use Rattle.nook_data.specs.Classes.{is_write, static_check}
-use Rattle.part_laws.proofs.Places.{split}
+use Rattle.part_laws.proofs.Indices.{split}
 use Rattle.mirror_block.specs.Rule.{Outcome, Presence, Said, MirrorStep, after_asking, after_failed_write, after_read, after_write, asks_right, failed_block, is_done, mirror_step, outcome, refusal_of, says, stays_after_read, step_asking, step_checked, step_refused, mirror_step_of, words_read}
 use Rattle.mirror_block.specs.Sides.{and_more}
 use Rattle.mirrored_run.proofs.GivingUp.{has_gone, is_gone}
 
 -- ---- what a side said
 
--- a side that is asked or not gives the first of its answers, or nothing
+-- a side gives the first of its answers if it is asked, and nothing otherwise
 record Says (asked : Bool) (answers : List Answer) (s : Said) : Type 0 where
   are : answers ≡ and_more s.said s.rest
   so : (a : Answer) → s.said ≡ Some a → asked ≡ true
@@ -126,7 +126,7 @@ step_taken blocks present (Set key value) lefts rights z e = absurd cc
 
 -- ---- a step that uses up all its answers
 
--- more answers are left over
+-- further answers are left over
 pub step_more : (blocks : ℕ) (present : Presence) (o : Op) (lefts rights l r : List Answer) (x : Outcome)
     → mirror_step blocks present o lefts rights ≡ Some (record { outcome = x; left = []; right = [] })
     → mirror_step blocks present o (lefts ++ l) (rights ++ r) ≡ Some (record { outcome = x; left = l; right = r })
@@ -150,7 +150,7 @@ step_checks blocks present o lefts rights x e = by_step (step_taken blocks prese
 
 -- ---- who stays
 
--- a side stays only where it was present, and did not answer Gone
+-- a side stays only if it was present, and did not answer Gone
 abbrev Stays : Bool → Bool → Option Answer → Type 0
 Stays stays present said = stays ≡ true → (present ≡ true) × (has_gone (and_more said []) ≡ false)
 

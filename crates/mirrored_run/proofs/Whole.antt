@@ -1,4 +1,4 @@
--- The whole run of a mirror: its operations, and two parts that are left behind them.
+-- The whole run of a mirror: its operations, and what its two parts leave after them.
 use Rattle.std.proofs.Common.{◌≡◌, inl, inr, ℕ, ◌≤◌, ◌==◌, ◌&&◌, ◌||◌, is_some, Bool, true, false, Option, Some, None, Result, Ok, Err, IfOk, List, [], ◌∷◌, ◌++◌, length, map, refl, sym, ap, subst, ◌∙◌, arith, eqb-true, get_or}
 use Rattle.std.specs.List.{All, list_any}
 use Rattle.std.proofs.lemmas.List.{length-map}
@@ -26,22 +26,22 @@ use Rattle.mirror_block.specs.Sides.{IsNewSide}
 use Rattle.mirror_block.proofs.NewMirror.{new_is_mirror}
 use Rattle.nook_data.specs.Views.Room.{Kept}
 use Rattle.part_server.specs.Turns.{opening_view}
-use Rattle.report_text.specs.declared.whole_report.PartEnd.{PartEnd}
-use Rattle.report_text.specs.Whole.{HaveEnds}
-use Rattle.run_ends.specs.Journals.{AreRuns, events_in}
+use Rattle.run_results.specs.declared.report.PartEnd.{PartEnd}
+use Rattle.run_results.specs.Reports.{HaveEnds}
+use Rattle.run_results.specs.Journals.{AreRuns, events_in}
 use Rattle.mirrored_run.specs.declared.running.Unheard.{Unheard}
 use Rattle.threaded_run.proofs.Working.{new_accounts, new_alone}
 use Rattle.threaded_run.specs.Leaving.{GoesOn, IsLeft}
 use Rattle.mirrored_run.specs.Hearing.{HearAllOrNothing}
 use Rattle.nook_io.specs.Listening.{Listening}
-use Rattle.request_taps.specs.Bus.{told_all}
+use Rattle.request_taps.specs.Bus.{after_hearing_all}
 use Rattle.request_taps.specs.declared.tap.Tap.{Tap}
 use Rattle.mirrored_run.specs.Exchanges.{AreExchanges, ArePlain, Exchange, answers_of, left_events, right_events}
 use Rattle.mirrored_run.specs.Mirrors.{HaveDisk, IsMirrorRun, end_medium, is_lost, is_mirror, is_pair, is_single, ops_of_thread, size_of}
 use Rattle.threaded_run.specs.Threaded.{AreSettled, in_parts}
 use Rattle.mirrored_run.specs.Serving.{HasServed}
 use Rattle.mirrored_run.specs.Unheard.{IsWholeRun}
-use Rattle.mirrored_run.proofs.Behind.{Exchanged, HasExchanged, are_exchanges, between, exchanged_by, exchanged_keeps, left_seen, right_seen, same_sides}
+use Rattle.mirrored_run.proofs.Following.{Exchanged, HasExchanged, are_exchanges, between, exchanged_by, exchanged_keeps, left_seen, right_seen, same_sides}
 use Rattle.mirrored_run.proofs.Plain.{before_unbroken, left_ends, plain_answers, right_ends}
 
 -- ---- the contract of both
@@ -76,7 +76,7 @@ module _ {D : Type 0} (spec : D → PartSpec) (scenario : Scenario) (l r : PartS
   ends : IsMirror spec h.new × (h.new.stopped ≡ false)
   ends = exchanged_keeps spec start exchanges h.new (new_is_mirror spec ld rd ov ow l.blocks left_side right_side) refl done.exchanged
 
-  -- what the sides of a mirror behind exchanges have seen
+  -- what the sides of a mirror have seen after exchanges
   left_saw : (xs : List Exchange) (m : MirrorView D) → Exchanged spec start xs m → left_events xs ≡ m.left.seen
   left_saw xs m k = ap (λ (x : List Event). x ++ left_events xs) (sym left_side.seen) ∙ left_seen spec start xs m k
 
@@ -95,11 +95,11 @@ module _ {D : Type 0} (spec : D → PartSpec) (scenario : Scenario) (l r : PartS
   right_goes_on : GoesOn h.new.right.seen right
   right_goes_on = subst (λ (v : DeskView). GoesOn v.seen right) h.right_is gr
 
-  -- the contract was kept in what the sides had seen behind these exchanges
-  plain_behind : (xs : List Exchange) (m : MirrorView D) → Exchanged spec start xs m → list_any is_lost (answers_of xs) ≡ false
+  -- the contract was kept in what the sides had seen after these exchanges
+  plain_after : (xs : List Exchange) (m : MirrorView D) → Exchanged spec start xs m → list_any is_lost (answers_of xs) ≡ false
       → first_break l.class l.blocks (left_events xs) ≡ None → first_break r.class r.blocks (right_events xs) ≡ None
       → (disk : List (List ℕ)) × IsDisk m disk × ArePlain l.blocks xs disk
-  plain_behind xs m k some kl kr =
+  plain_after xs m k some kl kr =
       plain_answers spec start xs m k left_side.seen right_side.seen refl
       (ap (λ (s : PartSpec). first_break s.class s.blocks m.left.seen) (left_spec xs m k) ∙ ap (λ (x : List Event). first_break l.class l.blocks x) (sym (left_saw xs m k)) ∙ kl)
       (ap (λ (s : PartSpec). first_break s.class s.blocks m.right.seen) (right_spec xs m k) ∙ ap (λ (x : List Event). first_break r.class r.blocks x) (sym (right_saw xs m k)) ∙ kr)
@@ -110,7 +110,7 @@ module _ {D : Type 0} (spec : D → PartSpec) (scenario : Scenario) (l r : PartS
   plain_so front p some kept =
       let b = between spec start front p.0 h.new (subst (λ (xs : List Exchange). Exchanged spec start xs h.new) (sym p.1) done.exchanged) in
       let k = both_kept l r (left_events front) (right_events front) kept in
-      let plain = plain_behind front b.view b.before some k.0 k.1 in
+      let plain = plain_after front b.view b.before some k.0 k.1 in
       (plain.0, plain.2)
 
   left_unbroken : first_break l.class l.blocks left ≡ None → first_break l.class l.blocks (left_events exchanges) ≡ None
@@ -127,7 +127,7 @@ module _ {D : Type 0} (spec : D → PartSpec) (scenario : Scenario) (l r : PartS
       → (disk : List (List ℕ)) × ArePlain l.blocks exchanges disk × HaveDisk (l ∷ r ∷ []) h.new.present left right disk
   disks_so some kept =
       let k = both_kept l r left right kept in
-      let plain = plain_behind exchanges h.new done.exchanged (ap (list_any is_lost) done.answers_are ∙ some) (left_unbroken k.0) (right_unbroken k.1) in
+      let plain = plain_after exchanges h.new done.exchanged (ap (list_any is_lost) done.answers_are ∙ some) (left_unbroken k.0) (right_unbroken k.1) in
       let ls = left_spec exchanges h.new done.exchanged in
       let rs = right_spec exchanges h.new done.exchanged in (
         plain.0,
@@ -238,7 +238,7 @@ served_alone spec ld rd ov ow blocks ops answers lv rv l r h =
     let k = exchanged_keeps spec (new_mirror ld rd ov ow blocks) e.exchanges h.new (new_is_mirror spec ld rd ov ow blocks l r) refl e.exchanged in
     (subst IsAlone (sym h.left_is) k.0.left.alone, subst IsAlone (sym h.right_is) k.0.right.alone)
 
--- ---- what is left
+-- ---- what the run leaves
 
 pub whole_run : {D : Type 0} (spec : D → PartSpec) (scenario : Scenario) (l r : PartSpec) (ld rd : D) (ov ow lv rv : DeskView) (answers : List MirrorAnswer)
     (lj rj : Kept Event) (le re : PartEnd) (made : Unheard) → scenario.parts ≡ l ∷ r ∷ [] → spec ld ≡ l → spec rd ≡ r → IsNewSide (spec ld) l.blocks ov → IsNewSide (spec rd) l.blocks ow
@@ -264,20 +264,20 @@ whole_run spec scenario l r ld rd ov ow lv rv answers lj rj le re made parts lef
       );
     }
 
--- two journals are few
+-- there are at most eight journals
 pub few_journals : (scenario : Scenario) (made : Unheard) → IsWholeRun scenario made → length made.journals ≤ 8
 few_journals scenario made h =
     let two : length (map events_in made.journals) ≡ 2 = ap (λ (l : List (List Event)). length l) h.mirrored.2 in
     let same : length (map events_in made.journals) ≡ length made.journals = length-map made.journals events_in in
     omega arith
 
--- ---- what is heard of a run that is refused
+-- ---- what taps heard of a run that is refused
 
 pub heard_nothing : (scenario : Scenario) (taps : List (Tap Listening)) → HearAllOrNothing scenario taps taps
 heard_nothing scenario taps = inl refl
 
 pub heard_all : (scenario : Scenario) (made : Unheard) (old new : List (Tap Listening)) → IsWholeRun scenario made
-    → new ≡ told_all (in_parts 0 (map events_in made.journals)) old → HearAllOrNothing scenario old new
+    → new ≡ after_hearing_all (in_parts 0 (map events_in made.journals)) old → HearAllOrNothing scenario old new
 heard_all scenario made old new h heard =
     let m = h.mirrored in
     inr (record {
@@ -286,7 +286,7 @@ heard_all scenario made old new h heard =
       answers = made.answers;
       runs = subst (AreRuns scenario.parts) m.2 h.runs;
       mirrored = m.3;
-      heard = heard ∙ ap (λ (js : List (List Event)). told_all (in_parts 0 js) old) m.2;
+      heard = heard ∙ ap (λ (js : List (List Event)). after_hearing_all (in_parts 0 js) old) m.2;
     })
 
 pub all_ok : {X E : Type 0} (r : Result X E) (P Q R S : X → Type 0) → ((x : X) → P x → Q x → R x → S x) → IfOk r P → IfOk r Q → IfOk r R → IfOk r S

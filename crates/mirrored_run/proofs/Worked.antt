@@ -1,4 +1,4 @@
--- A worked list of operations: what the exchanges tell that the sides' answers alone do not.
+-- A worked list of operations: what the exchanges show that the sides' answers alone do not.
 use Rattle.std.proofs.Common.{◌≡◌, ℕ, false, Some, List, [], ◌∷◌, refl, ap, arith}
 use Rattle.std.specs.Prelude.{replicate}
 use Rattle.nook_data.specs.Classes.{first_of_op}
@@ -19,7 +19,7 @@ abbrev twos : List ℕ
 twos = replicate 16 2
 
 -- Block 1 is written and read, then blocks 2 and 3 are read. The left side's medium fails at the first read, and the
--- right side is asked for block 2 in its place. The rule over the answers alone allows the wrong answer to that read.
+-- right side is asked for block 2 instead. The rule over the answers alone allows the wrong answer to that read.
 wrong_answer : mirrored 4 both_present (Write 1 ones ∷ Read 1 1 ∷ Read 2 1 ∷ Read 3 1 ∷ [])
     (answered.Done ∷ answered.IoError 1 ∷ answered.Blocks twos ∷ answered.Gone 1 ∷ []) (answered.Done ∷ answered.Blocks twos ∷ answered.Gone 1 ∷ [])
     ≡ Some (record {
@@ -35,7 +35,7 @@ first_asked (i ∷ invoked) = first_of_op i.op
 apart : (n : ℕ) → n ≡ 2 → n ≡ 1 → ⊥
 apart n h k = omega arith
 
--- no exchange of a read of block 1 is one in which the right side was asked for block 2
+-- in no exchange for a read of block 1 was the right side asked for block 2
 other_block : (before after : Presence) (left : List Event) (a : MirrorAnswer)
     → IsExchange 4 before (record { op = Read 1 1; left = left; right = event.Invoke 2 0 (Read 2 1) (Some (answered.Blocks twos)) ∷ []; answer = a }) after → ⊥
 other_block before after left a h = apart 2 refl (ap first_asked h.right.1)

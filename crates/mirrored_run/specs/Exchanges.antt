@@ -19,16 +19,17 @@ pub record Exchange : Type 0 where
   pub right : List Event
   pub answer : MirrorAnswer
 
--- In these events, with these answers, a side was asked this operation by thread 0, once, and answered. Where there is
--- no answer it was not asked, and nothing happened.
+-- In these events, with these answers, a side was asked this operation by thread 0, once, and answered. If there is no
+-- answer, it was not asked, and nothing happened.
 abbrev pub IsAsking : Op → List Event → List Answer → Type 0
 IsAsking o events [] = events ≡ []
 IsAsking o events (a ∷ answers) =
     (call : ℕ) × (invocations events ≡ record { call = call; thread = 0; op = o } ∷ [])
 
--- An exchange of a mirror of so many blocks, from the sides that are present before it to those that are after it. Each
--- side was asked that operation alone. Who was asked, who stays and what is answered is one step of the rule over the
--- sides' answers, which are used up. It is BothLost only where each side that was present was asked and answered Gone.
+-- An exchange of a mirror with this many blocks, with the sides that are present before and after it. Each side was
+-- asked that operation alone. Who was asked, who stays and what is answered follows from one step of the rule over the
+-- sides' answers, all of which it uses. The answer is BothLost only if each side that was present was asked and
+-- answered Gone.
 pub record IsExchange (blocks : ℕ) (before : Presence) (x : Exchange) (after : Presence) : Type 0 where
   pub left : IsAsking x.op x.left (answers_given x.left)
   pub right : IsAsking x.op x.right (answers_given x.right)
@@ -37,7 +38,7 @@ pub record IsExchange (blocks : ℕ) (before : Presence) (x : Exchange) (after :
   pub lost : x.answer ≡ mirror.BothLost
       → SaysGone before.left (answers_given x.left) × SaysGone before.right (answers_given x.right)
 
--- so it is one after the other
+-- the same for exchanges one after the other
 abbrev pub AreExchanges : ℕ → Presence → List Exchange → Presence → Type 0
 AreExchanges blocks before [] after = after ≡ before
 AreExchanges blocks before (x ∷ xs) after =
@@ -57,8 +58,8 @@ ops_of xs = map (λ x. x.op) xs
 abbrev pub answers_of : List Exchange → List MirrorAnswer
 answers_of xs = map (λ x. x.answer) xs
 
--- the answers are those of one plain disk of so many blocks, any of which may be bad, to the operations, and the disk is
--- this behind them
+-- the answers to the operations are those of one plain disk with this many blocks, any of which may be bad, and this is
+-- the disk after them
 abbrev pub ArePlain : ℕ → List Exchange → List (List ℕ) → Type 0
 ArePlain blocks xs disk =
     ServesAll blocks (blank_blocks class.Block blocks) (map (λ x. (x.op, x.answer)) xs) disk

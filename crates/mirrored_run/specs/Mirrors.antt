@@ -68,7 +68,7 @@ abbrev pub is_lost : MirrorAnswer → Bool
 is_lost mirror.BothLost = true
 is_lost a = false
 
--- the medium that a part ends with, which its `disk` lines tell
+-- the medium that a part ends with, as in its `disk` lines
 abbrev pub end_medium : PartSpec → List Event → List (List ℕ)
 end_medium spec journal = medium_of (state_of spec journal).domain.device
 
@@ -87,23 +87,23 @@ pub record IsMirrorRun (scenario : Scenario) (left right : List Event) (answers 
   -- which sides are present at the end
   pub present : Presence
   pub asked : AreExchanges (mirror_blocks scenario) both_present exchanges present
-  -- each journal is what these exchanges added, and goes on without a call until its part has no step left
+  -- each journal is what these exchanges added, and continues without a call until its part has no step left
   pub left_goes_on : GoesOn (left_events exchanges) left
   pub right_goes_on : GoesOn (right_events exchanges) right
   pub settled : AreSettled scenario.parts (left ∷ right ∷ [])
-  -- over each front of the operations in which none is answered BothLost and no driver broke the contract in the events
-  -- up to there, the answers are those of one plain disk with bad blocks
+  -- over each prefix of the operations, if none is answered BothLost and no driver broke the contract in the events so
+  -- far, the answers are those of one plain disk with bad blocks
   pub plain : (front : List Exchange) → IsPrefix front exchanges → list_any is_lost (answers_of front) ≡ false
       → has_break scenario.parts (left_events front ∷ right_events front ∷ []) ≡ false
       → (disk : List (List ℕ)) × ArePlain (mirror_blocks scenario) front disk
-  -- where that holds to the end of both journals, each side that is present ends with that disk
+  -- if that holds to the end of both journals, each side that is present ends with that disk
   pub disks : list_any is_lost answers ≡ false → has_break scenario.parts (left ∷ right ∷ []) ≡ false
       → (disk : List (List ℕ)) × ArePlain (mirror_blocks scenario) exchanges disk
       × HaveDisk scenario.parts present left right disk
 
 -- ---- the status
 
--- 7 where a part broke its contract, else 1 where both sides were lost at an operation, else 0
+-- 7 if a part broke its contract, otherwise 1 if both sides were lost at an operation, otherwise 0
 abbrev pub mirror_status : Scenario → List Event → List Event → List MirrorAnswer → ℕ
 mirror_status scenario left right answers =
     if has_break scenario.parts (left ∷ right ∷ []) then 7 else if list_any is_lost answers then 1 else 0

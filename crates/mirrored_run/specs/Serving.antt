@@ -7,12 +7,12 @@ use Rattle.nook_data.specs.declared.mirror.MirrorAnswer.{MirrorAnswer}
 use Rattle.nook_data.specs.declared.calls.Op.{Op}
 use Rattle.nook_data.specs.declared.scenario.PartSpec.{PartSpec}
 
--- each side was asked so often at most
+-- each side was asked at most this often
 pub record HasAsked {D : Type 0} (most : ℕ) (m : MirrorView D) : Type 0 where
   pub left : length (invocations m.left.seen) ≤ most
   pub right : length (invocations m.right.seen) ≤ most
 
--- operations are answered so, one after the other
+-- operations get these answers, one after the other
 abbrev pub AreServedBy : {D : Type 0} → (D → PartSpec) → MirrorView D → List Op → List MirrorAnswer → MirrorView D
     → Type 0
 AreServedBy spec old [] [] new = new ≡ old
@@ -22,7 +22,7 @@ AreServedBy {D} spec old (o ∷ ops) (a ∷ answers) new =
     (between : MirrorView D) × IsMirrorAnswer old between o a × IsMirror spec between
     × AreServedBy spec between ops answers new
 
--- a mirror of so many blocks over two desks served operations so, and this is what the seats know then
+-- a mirror with this many blocks over two desks gave these answers, and this is what the seats know afterwards
 pub record HasServed {D : Type 0} (spec : D → PartSpec) (left_desk right_desk : D) (old_left old_right : DeskView)
     (blocks : ℕ) (ops : List Op) (answers : List MirrorAnswer) (left right : DeskView) : Type 0 where
   pub new : MirrorView D

@@ -2,12 +2,12 @@
 use Rattle.std.specs.Prelude.{◌≡◌, List, [], ◌∷◌, map}
 use Rattle.nook_data.specs.declared.steps.Event.{Event}
 use Rattle.nook_data.specs.declared.scenario.Scenario.{Scenario}
-use Rattle.report_text.specs.Whole.{HaveEnds}
-use Rattle.run_ends.specs.Journals.{AreRuns, events_in}
+use Rattle.run_results.specs.Reports.{HaveEnds}
+use Rattle.run_results.specs.Journals.{AreRuns, events_in}
 use Rattle.mirrored_run.specs.declared.running.Unheard.{Unheard}
 use Rattle.mirrored_run.specs.Mirrors.{IsMirrorRun}
 
--- the mirror of the scenario was run, and each part ends in what is told
+-- the mirror of the scenario was run, and each part ends as reported
 pub record IsWholeRun (scenario : Scenario) (made : Unheard) : Type 0 where
   pub runs : AreRuns scenario.parts (map events_in made.journals)
   pub ends : HaveEnds scenario.parts made.journals made.ends

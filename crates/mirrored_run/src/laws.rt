@@ -8,11 +8,12 @@ ghost use Rattle.nook_data.specs.declared.mirror.MirrorAnswer.{MirrorAnswer};
 ghost use Rattle.nook_data.specs.declared.scenario.Scenario.{Scenario};
 ghost use Rattle.nook_data.specs.declared.steps.Event.{Event};
 
-/// The answers of a mirror are the rule's over the answers in the two journals, in the order of their calls, and all of
-/// these are used up.
+/// The answers of a mirror are those of the rule over the answers in the two journals, in the order of their calls. The
+/// rule uses all of these.
 pub fn the_answers_are_the_rules()
     ensures { (scenario : Scenario) (left right : List Event) (answers : List MirrorAnswer)
         → IsMirrorRun scenario left right answers
         → (p : Presence) × (mirrored (mirror_blocks scenario) both_present (mirror_ops scenario)
-        (answers_given left) (answers_given right) ≡ Some (record { present = p; answers = answers })) }
+        (answers_given left) (answers_given right)
+        ≡ Some (record { present = p; answers = answers })) }
 {}

@@ -9,9 +9,9 @@ ghost use Rattle.mirrored_run.specs.Unheard.{IsWholeRun};
 ghost use Rattle.nook_data.specs.Valid.{IsValidScenario};
 ghost use Rattle.nook_data.specs.declared.steps.Event.{Event};
 ghost use Rattle.part_server.specs.Desk.{IsDeskSeat, desk_spec, desk_view};
-ghost use Rattle.report_text.specs.Whole.{HaveEnds};
-ghost use Rattle.request_taps.specs.Bus.{result_of, seen, told_all};
-ghost use Rattle.run_ends.specs.Journals.{AreRuns, events_in};
+ghost use Rattle.run_results.specs.Reports.{HaveEnds};
+ghost use Rattle.request_taps.specs.Bus.{result_of, seen, after_hearing_all};
+ghost use Rattle.run_results.specs.Journals.{AreRuns, events_in};
 ghost use Rattle.threaded_run.specs.Threaded.{in_parts};
 
 use crate::serving::serve_first;
@@ -23,21 +23,21 @@ use nook_data::mirror::MirrorAnswers;
 use nook_data::scenario::{PartSpec, Scenario, ThreadSpec};
 use nook_io::outside::Listener;
 use part_server::{DeskSeat, PartDesk};
-use report_text::{Journals, PartEnds, Run};
 use request_taps::Bus;
 use run_ends::WholeRun;
+use run_results::{Journals, PartEnds, Run};
 use std::alloc::Global;
 use std::sync::Wait;
 use threaded_run::{Left, leave, open_desk, publish_all};
 
-/// What the run of a mirror left: its journals, totals and ends (with no answers of threads), and the mirror's answers.
+/// What the run of a mirror left: its journals, totals and ends (without answers of threads), and the mirror's answers.
 #[derive(Drop)]
 pub struct Mirrored {
     pub whole: WholeRun,
     pub answers: MirrorAnswers,
 }
 
-/// What the run of a mirror left that nobody has heard.
+/// What the run of a mirror left that no tap has heard.
 #[derive(Drop)]
 pub struct Unheard {
     pub journals: Journals,
@@ -53,9 +53,9 @@ pub struct Served {
     pub right: DeskSeat,
 }
 
-/// Runs the mirror of a valid scenario that a mirror serves: its thread's operations one after the other, over a desk
-/// for each of the two parts. Then both parts take the steps that they have left, and the taps hear the journals, part
-/// by part. After `NoMemory` the taps have heard nothing, or all events of the journals of such a run.
+/// Runs the mirror of a valid scenario that a mirror serves: serves its thread's operations one after the other, over a
+/// desk for each of the two parts. Then both parts take their remaining steps, and the taps hear the journals, part by
+/// part. After `NoMemory` the taps have heard nothing, or all events of the journals of such a run.
 pub fn run_mirror<R: Wait, L: Listener>(
     rt: &R,
     alloc: Global,
@@ -64,14 +64,18 @@ pub fn run_mirror<R: Wait, L: Listener>(
 ) -> Result<Mirrored, NoMemory>
     requires valid { IsValidScenario scenario.now }
     requires served { is_mirror scenario.now ≡ true }
-    ensures runs { IfOk result (λ made. AreRuns scenario.now.parts (map events_in made.whole.run.journals)) }
-    ensures ends { IfOk result (λ made. HaveEnds scenario.now.parts made.whole.run.journals made.whole.ends) }
+    ensures runs { IfOk result
+        (λ made. AreRuns scenario.now.parts (map events_in made.whole.run.journals)) }
+    ensures ends { IfOk result
+        (λ made. HaveEnds scenario.now.parts made.whole.run.journals made.whole.ends) }
     ensures mirrored { IfOk result (λ made. (left right : List Event)
         × (map events_in made.whole.run.journals ≡ left ∷ right ∷ [])
         × IsMirrorRun scenario.now left right made.answers) }
     ensures heard { IfOk result (λ made. map (seen L.listening) taps.new
-        ≡ told_all (in_parts 0 (map events_in made.whole.run.journals)) (map (seen L.listening) taps.old)) }
-    ensures totals { IfOk result (λ made. made.whole.run.taps ≡ map result_of (map (seen L.listening) taps.new)) }
+        ≡ after_hearing_all (in_parts 0 (map events_in made.whole.run.journals))
+        (map (seen L.listening) taps.old)) }
+    ensures totals { IfOk result
+        (λ made. made.whole.run.taps ≡ map result_of (map (seen L.listening) taps.new)) }
     ensures refused { OnErr result (HearAllOrNothing scenario.now
         (map (seen L.listening) taps.old) (map (seen L.listening) taps.new)) }
 {
@@ -101,7 +105,7 @@ fn run_unheard<R: Wait>(rt: &R, alloc: Global, scenario: &Scenario) -> Result<Un
     run_pair(rt, alloc, scenario, left, right)
 }
 
-/// The two of two parts.
+/// The first and the second of two parts.
 fn both(parts: &[PartSpec]) -> (&PartSpec, &PartSpec)
     requires { length parts.now ≡ 2 }
     ensures { parts.now ≡ result.0.now ∷ result.1.now ∷ [] }
@@ -109,7 +113,7 @@ fn both(parts: &[PartSpec]) -> (&PartSpec, &PartSpec)
     (&parts[0], &parts[1])
 }
 
-/// The same, of the scenario's two parts.
+/// The same, with the scenario's two parts.
 fn run_pair<R: Wait>(
     rt: &R,
     alloc: Global,
@@ -140,7 +144,7 @@ fn run_pair<R: Wait>(
     gather(alloc, left_part, right_part, served.answers)
 }
 
-/// Serves the operations of the first thread, at most 256, by a mirror of so many blocks over two desks.
+/// Serves the operations of the first thread, at most 256, by a mirror with `blocks` blocks over two desks.
 fn serve_over<R: Wait>(
     rt: &R,
     alloc: Global,
@@ -159,8 +163,10 @@ fn serve_over<R: Wait>(
     requires right { IsNewSide (desk_spec right.now) blocks (desk_view right_seat) }
     ensures left { IfOk result (λ served. IsDeskSeat left.now served.left) }
     ensures right { IfOk result (λ served. IsDeskSeat right.now served.right) }
-    ensures served { IfOk result (λ served. HasServed desk_spec left.now right.now (desk_view left_seat)
-        (desk_view right_seat) blocks (ops_of_thread threads.now) served.answers (desk_view served.left)
+    ensures served { IfOk result
+        (λ served. HasServed desk_spec left.now right.now (desk_view left_seat)
+        (desk_view right_seat) blocks (ops_of_thread threads.now) served.answers
+        (desk_view served.left)
         (desk_view served.right)) }
 {
     let mut mirror = Mirror::new(left, right, left_seat, right_seat, blocks);
@@ -173,7 +179,7 @@ fn serve_over<R: Wait>(
     })
 }
 
-/// What two parts left, and the answers, in one.
+/// Combines what two parts left and the answers.
 fn gather(
     alloc: Global,
     left: Left,

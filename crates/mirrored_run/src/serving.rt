@@ -29,7 +29,8 @@ pub fn serve_first<R: Wait, D: DeskLike>(
     requires fresh { HasAsked 0 mirror.old }
     requires single { is_single threads.now ≡ true }
     requires few { length (ops_of_thread threads.now) ≤ MOST_OPS }
-    ensures { IfOk result (λ answers. AreServedBy D.spec mirror.old (ops_of_thread threads.now) answers mirror.new) }
+    ensures { IfOk result
+        (λ answers. AreServedBy D.spec mirror.old (ops_of_thread threads.now) answers mirror.new) }
 {
     match threads {
         [] => Ok(MirrorAnswers::new(alloc)),
@@ -49,7 +50,8 @@ fn serve_all<R: Wait, D: DeskLike>(
     requires fresh { HasAsked 0 mirror.old }
     requires disk_ops { list_all is_mirrored_op ops.now ≡ true }
     requires few { length ops.now ≤ MOST_OPS }
-    ensures { IfOk result (λ answers. AreServedBy D.spec mirror.old (map (λ o. o.1) ops.now) answers mirror.new) }
+    ensures { IfOk result
+        (λ answers. AreServedBy D.spec mirror.old (map (λ o. o.1) ops.now) answers mirror.new) }
 {
     let mut answers = MirrorAnswers::new(alloc);
     for (_, op) in ops {
@@ -59,7 +61,7 @@ fn serve_all<R: Wait, D: DeskLike>(
     Ok(answers)
 }
 
-/// Serves an operation by a mirror that goes on, whose sides have not all the calls that a part may have.
+/// Serves an operation by a mirror that has not stopped, and whose sides' parts may have more calls.
 fn serve<R: Wait, D: DeskLike>(
     rt: &R,
     alloc: Global,

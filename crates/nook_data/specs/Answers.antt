@@ -2,7 +2,7 @@ use Rattle.std.specs.Prelude.{◌==◌, if◌then◌else◌, ℕ, List, [], ◌�
 use Rattle.nook_data.specs.Types.{Answer, Event}
 use Rattle.nook_data.specs.declared.steps.Event.TheVariants as event
 
--- one answer, where there is one
+-- the call's answer as a list, empty if there is none
 abbrev pub one_answer : ℕ → Option Answer → List (ℕ × Answer)
 one_answer call None = []
 one_answer call (Some a) = (call, a) ∷ []
@@ -20,6 +20,6 @@ abbrev pub answer_among : ℕ → List (ℕ × Answer) → Option Answer
 answer_among call [] = None
 answer_among call ((c, a) ∷ answers) = if c == call then Some a else answer_among call answers
 
--- the answer that an event gives to a call
+-- the answer that an event gives to a call, if any
 abbrev pub answer_at : ℕ → Event → Option Answer
 answer_at call e = answer_among call (answers_of e)

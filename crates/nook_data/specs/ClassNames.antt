@@ -11,6 +11,6 @@ class_text class.Block = codes "block"
 class_text class.Net = codes "net"
 class_text class.Sound = codes "sound"
 
--- the class of a name
+-- the class with a name
 unfoldable pub class_named : List ℕ → Option Class
 class_named name = of_text class_text (class.Block ∷ class.Net ∷ class.Sound ∷ []) name

@@ -13,19 +13,19 @@ use Rattle.nook_data.specs.declared.calls.Op.TheVariants.{Read, Write, Send, Rec
 abbrev pub class_code : Class → ℕ
 class_code class = elim class [ Block ↦ 0 | Net ↦ 1 | Sound ↦ 2 ]
 
--- two classes are one
+-- the two classes are the same
 abbrev pub same_class : Class → Class → Bool
 same_class a b = class_code a == class_code b
 
 -- ---- configuration
 
--- what a register and the record hold at first, key 0 to 3
+-- the initial value of each configuration register and of the record, by key 0 to 3
 abbrev pub default_of : Class → ℕ → ℕ
 default_of Block key = 0
 default_of Net key = if key == 0 then 100 else if key == 1 then 1 else 0
 default_of Sound key = if key == 0 then 8000 else if key == 1 then 5 else if key == 2 then 1 else 0
 
--- the greatest value of a key
+-- the greatest valid value of a key
 abbrev pub maximum_of : Class → ℕ → ℕ
 maximum_of Block key = if key == 0 then 1 else if key == 1 then 8 else 4294967295
 maximum_of Net key = if key == 0 then 1000 else if key == 1 then 1 else if key == 2 then 255 else 4294967295
@@ -68,7 +68,7 @@ is_play o = elim o [ (Play samples) ↦ true | _ ↦ false ]
 abbrev pub sends : List ℕ → Op → Bool
 sends frame o = elim o [ (Send own) ↦ bytes_eq own frame | _ ↦ false ]
 
--- the word is the next one of a Play of which so many samples were played
+-- the word is the next sample of a Play of which this many samples were played
 abbrev pub is_next : Op → ℕ → ℕ → Bool
 is_next (Play samples) played word = nat_lt played (length samples) && (slice_index samples played == word)
 is_next o played word = false
@@ -89,26 +89,26 @@ blocks_of_op (Read first count) = count
 blocks_of_op (Write first words) = length words / BLOCK_WORDS
 blocks_of_op o = 0
 
--- a block of a Read or Write
+-- the Read or Write covers the block
 abbrev pub covers : Op → ℕ → Bool
 covers o block = nat_le (first_of_op o) block && nat_lt block (first_of_op o + blocks_of_op o)
 
--- ---- the static check: what is wrong with an operation whatever the part's state
+-- ---- the static check: what is wrong with an operation in every state of the part
 
--- a range of blocks on a disk of so many
+-- checks that a range of blocks fits on a disk with this many blocks
 abbrev pub check_range : ℕ → ℕ → ℕ → Option Answer
 check_range blocks first count = if nat_le (first + count) blocks then None else Some answer.BadRange
 
--- a frame or samples
+-- checks the length of a frame or of samples
 abbrev pub check_length : List ℕ → Option Answer
 check_length words =
     if nat_le 1 (length words) && nat_le (length words) MOST_FRAME_WORDS then None else Some answer.BadLength
 
--- the words of 1 to 8 blocks
+-- the number of words is that of 1 to 8 blocks
 abbrev pub is_block_length : ℕ → Bool
 is_block_length n = nat_le BLOCK_WORDS n && nat_le n (MOST_BLOCKS * BLOCK_WORDS) && (n % BLOCK_WORDS == 0)
 
--- an operation of the class
+-- checks the arguments of an operation of the class
 abbrev pub check_op : Class → ℕ → Op → Option Answer
 check_op class blocks (Read first count) =
     if nat_le 1 count && nat_le count MOST_BLOCKS then check_range blocks first count else Some answer.BadLength
@@ -127,14 +127,14 @@ check_op class blocks o = None
 abbrev pub static_check : Class → ℕ → Op → Option Answer
 static_check class blocks o = if is_of_class class o then check_op class blocks o else Some answer.BadClass
 
--- ---- conflicts: two open calls of which the later waits for the earlier
+-- ---- conflicts: of two conflicting open calls, the later one waits for the earlier
 
--- two ranges of blocks
+-- the two ranges of blocks overlap
 abbrev pub share_block : Op → Op → Bool
 share_block a b =
     nat_lt (first_of_op a) (first_of_op b + blocks_of_op b) && nat_lt (first_of_op b) (first_of_op a + blocks_of_op a)
 
--- two operations of a class, neither of them a Set
+-- two operations of a class conflict; neither is a Set
 abbrev pub clash : Class → Op → Op → Bool
 clash Block a b = (is_write a || is_write b) && share_block a b
 clash Net a b = is_recv a && is_recv b
@@ -150,62 +150,62 @@ conflicts class a b = is_set a || is_set b || clash class a b
 abbrev pub entry_count : Class → ℕ
 entry_count class = elim class [ Block ↦ 5 | Net ↦ 5 | Sound ↦ 6 ]
 
--- the place of Init among the entries
-abbrev pub init_place : ℕ
-init_place = 0
+-- the index of Init among the entries
+abbrev pub init_address : ℕ
+init_address = 0
 
--- the place of Open among the entries
-abbrev pub open_place : ℕ
-open_place = 1
+-- the index of Open among the entries
+abbrev pub open_point : ℕ
+open_point = 1
 
--- the place of Get among the entries
-abbrev pub get_place : Class → ℕ
-get_place class = elim class [ Block ↦ 3 | Net ↦ 3 | Sound ↦ 4 ]
+-- the index of Get among the entries
+abbrev pub get_number : Class → ℕ
+get_number class = elim class [ Block ↦ 3 | Net ↦ 3 | Sound ↦ 4 ]
 
--- the place of Set among the entries
-abbrev pub set_place : Class → ℕ
-set_place class = elim class [ Block ↦ 4 | Net ↦ 4 | Sound ↦ 5 ]
+-- the index of Set among the entries
+abbrev pub set_position : Class → ℕ
+set_position class = elim class [ Block ↦ 4 | Net ↦ 4 | Sound ↦ 5 ]
 
--- the place of an operation's entry
-abbrev pub entry_place : Class → Op → ℕ
-entry_place class (Read first count) = 1
-entry_place class (Write first words) = 2
-entry_place class (Send frame) = 1
-entry_place class Recv = 2
-entry_place class Open = open_place
-entry_place class (Play samples) = 2
-entry_place class Close = 3
-entry_place class (Get key) = get_place class
-entry_place class (Set key value) = set_place class
+-- the index of an operation's entry
+abbrev pub entry_address : Class → Op → ℕ
+entry_address class (Read first count) = 1
+entry_address class (Write first words) = 2
+entry_address class (Send frame) = 1
+entry_address class Recv = 2
+entry_address class Open = open_point
+entry_address class (Play samples) = 2
+entry_address class Close = 3
+entry_address class (Get key) = get_number class
+entry_address class (Set key value) = set_position class
 
 -- ---- at Enter
 
--- whether the thread has the stream
+-- the thread holds the stream
 abbrev pub is_holder : Option ℕ → ℕ → Bool
 is_holder None thread = false
 is_holder (Some holder) thread = holder == thread
 
--- a Play or Close, which only the holder may do
+-- admits a Play or Close, which only the holder may do
 abbrev pub admit_holder : Bool → ℕ → Admit
-admit_holder true place = Enter place
-admit_holder false place = Reply answer.NotOpen
+admit_holder true index = Enter index
+admit_holder false index = Reply answer.NotOpen
 
--- what becomes of a thread's call at its Enter, by the stream's holder and the number of frames in the queue
+-- what becomes of a thread's call at its Enter, given the stream's holder and the number of frames in the queue
 abbrev pub admit : Class → ℕ → Op → Option ℕ → ℕ → Admit
-admit class thread Recv holder queued = if queued == 0 then Enter (entry_place class Recv) else TakeFrame
-admit class thread Open holder queued = elim holder [ None ↦ Enter open_place | Some one ↦ Reply (answer.InUse one) ]
+admit class thread Recv holder queued = if queued == 0 then Enter (entry_address class Recv) else TakeFrame
+admit class thread Open holder queued = elim holder [ None ↦ Enter open_point | Some one ↦ Reply (answer.InUse one) ]
 admit class thread (Play samples) holder queued =
-    admit_holder (is_holder holder thread) (entry_place class (Play samples))
-admit class thread Close holder queued = admit_holder (is_holder holder thread) (entry_place class Close)
-admit class thread o holder queued = Enter (entry_place class o)
+    admit_holder (is_holder holder thread) (entry_address class (Play samples))
+admit class thread Close holder queued = admit_holder (is_holder holder thread) (entry_address class Close)
+admit class thread o holder queued = Enter (entry_address class o)
 
 -- ---- at the driver's reply
 
--- status 256 + i of a Read or Write tells that its block number i, from 0, failed
+-- status 256 + i of a Read or Write reports that its block with index i failed
 abbrev pub is_io_status : Op → ℕ → Bool
 is_io_status o status = nat_le 256 status && nat_lt (status - 256) (blocks_of_op o)
 
--- what the status of a reply says of an operation
+-- what the status of a reply means for an operation
 abbrev pub accept : Op → ℕ → Accept
 accept o status = if status == 0 then accepted.Take
     else if is_io_status o status then accepted.IoError (first_of_op o + (status - 256))

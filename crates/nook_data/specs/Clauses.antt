@@ -7,13 +7,13 @@ use Rattle.nook_data.specs.declared.clause.Clause.TheVariants.{UnmadeSet, OtherG
 
 -- The clauses of the contract of a class.
 
--- all of them, in the order of their numbers
+-- all clauses, in the order of their numbers
 abbrev pub all_clauses : List Clause
 all_clauses =
     UnaskedStore ∷ OtherStore ∷ UnstoredWrite ∷ OtherRead ∷ UnaskedFrame ∷ SecondFrame ∷ UnsentSend ∷ OutOfOrder
     ∷ LeftInRing ∷ OtherSample ∷ UnplayedPlay ∷ UnaskedRegister ∷ UnmadeSet ∷ OtherGet ∷ UnseenFailure ∷ []
 
--- the number by which a clause is printed
+-- the number that is printed for a clause
 abbrev pub clause_number : Clause → ℕ
 clause_number UnaskedStore = 1
 clause_number OtherStore = 2

@@ -2,7 +2,7 @@ use Rattle.std.specs.Prelude.{ℕ, Bool, true, false, List, [], ◌∷◌, Optio
 
 -- The frames that wait in a ring or a queue, the oldest first.
 
--- the first frame of a ring, or no words
+-- the first frame of a ring, or no words if it is empty
 abbrev pub head_of : List (List ℕ) → List ℕ
 head_of [] = []
 head_of (frame ∷ ring) = frame
@@ -17,7 +17,7 @@ abbrev pub is_empty : List (List ℕ) → Bool
 is_empty [] = true
 is_empty (frame ∷ frames) = false
 
--- the oldest frame of the kernel's queue, where one waits
+-- the oldest frame of the kernel's queue, if any
 abbrev pub front_of : List (List ℕ) → Option (List ℕ)
 front_of [] = None
 front_of (frame ∷ queue) = Some frame

@@ -3,16 +3,16 @@ use Rattle.nook_data.specs.declared.memory_map.TheConstants.{DATA_END, STACKS_EN
 use Rattle.nook_data.specs.declared.memory_map.TheConstants.{BUFFER_WORDS}
 use Rattle.nook_data.specs.declared.memory_map.TheConstants.{OBJECT_WORDS}
 
--- Where the regions of a context and of a kernel object are in a domain's memory.
+-- The addresses of the regions of a context and of a kernel object in a domain's memory.
 
--- the first address behind a context's stack page
+-- the first address after a context's stack page
 abbrev pub stack_end : ℕ → ℕ
 stack_end context = DATA_END + STACK_WORDS * (context + 1)
 
--- where a context's buffer begins
+-- the first address of a context's buffer
 abbrev pub buffer_start : ℕ → ℕ
 buffer_start context = STACKS_END + BUFFER_WORDS * context
 
--- where a kernel object begins
+-- the first address of a kernel object
 abbrev pub object_start : ℕ → ℕ
 object_start object = BUFFERS_END + OBJECT_WORDS * object

@@ -7,6 +7,6 @@ pub mod Clauses
 pub mod Answers
 pub mod Frames
 pub mod Layout
-pub mod Places
+pub mod Numbered
 pub mod Valid
 pub mod Members

@@ -3,18 +3,18 @@ use Rattle.nook_data.specs.Types.{Campaign, Fault, PartSpec, Scenario, ThreadSpe
 use Rattle.nook_data.specs.declared.limits.TheConstants.{MOST_CAMPAIGN_FAULTS, MOST_CAMPAIGN_OPS, MOST_FAULTS}
 use Rattle.nook_data.specs.Valid.{IsValidFault, IsValidScenario}
 
--- A campaign's limits, and the scenarios of its members.
+-- The limits of a campaign, and the scenarios of its members.
 
--- the faults of a part, where it is there
+-- the faults of a part, or none if there is no part
 abbrev pub own_faults : Option PartSpec → List Fault
 own_faults None = []
 own_faults (Some part) = part.faults
 
--- the faults that the part at a place has of its own
+-- the faults of the part at an index
 abbrev pub faults_at : List PartSpec → ℕ → List Fault
-faults_at parts place = own_faults (slice_get parts place)
+faults_at parts index = own_faults (slice_get parts index)
 
--- the operations of all threads together
+-- the number of operations of all threads together
 abbrev pub ops_count : List ThreadSpec → ℕ
 ops_count [] = 0
 ops_count (thread ∷ threads) = length thread.ops + ops_count threads
@@ -28,23 +28,23 @@ pub record IsValidCampaign (campaign : Campaign) : Type 0 where
   pub op_count : ops_count campaign.base.threads ≤ MOST_CAMPAIGN_OPS
   pub room : length (faults_at campaign.base.parts campaign.part) ≤ MOST_FAULTS - 1
 
--- the part with one more fault, behind its own
+-- the part with one more fault after its own
 abbrev pub with_fault : Fault → PartSpec → PartSpec
 with_fault fault part = record part { faults = part.faults ++ fault ∷ [] }
 
--- the part that a campaign strikes, with one more fault
+-- the parts in which the part that a campaign strikes has one more fault
 abbrev pub with_struck : List PartSpec → ℕ → Fault → Option PartSpec → List PartSpec
-with_struck parts place fault None = parts
-with_struck parts place fault (Some part) = slice_set parts place (with_fault fault part)
+with_struck parts index fault None = parts
+with_struck parts index fault (Some part) = slice_set parts index (with_fault fault part)
 
--- the parts, of which the one at a place has one more fault
+-- the parts in which the one at an index has one more fault
 abbrev pub struck_parts : List PartSpec → ℕ → Fault → List PartSpec
-struck_parts parts place fault = with_struck parts place fault (slice_get parts place)
+struck_parts parts index fault = with_struck parts index fault (slice_get parts index)
 
--- the scenario with one more fault of the part at a place
+-- the scenario in which the part at an index has one more fault
 abbrev pub struck : Scenario → ℕ → Fault → Scenario
-struck scenario place fault = record scenario { parts = struck_parts scenario.parts place fault }
+struck scenario index fault = record scenario { parts = struck_parts scenario.parts index fault }
 
--- the scenario of the member with a fault
+-- the scenario of the campaign's member with this fault
 abbrev pub member : Campaign → Fault → Scenario
 member campaign fault = struck campaign.base campaign.part fault

@@ -1,4 +1,4 @@
--- The types of the code's data, which the definitions speak of, passed on so that each names them in one place.
+-- The types of the code's data, re-exported so that the definitions import them from one module.
 use Rattle.nook_data.specs.declared
 pub use declared.machine.{Form.Form, Mnemonic.Mnemonic, Act.Act, BadParam.BadParam, BurstEnd.BurstEnd, Context.Context}
 pub use declared.machine.{Cpu.Cpu, Instr.Instr, Service.Service, TrapCause.TrapCause}

@@ -1,7 +1,7 @@
 use Rattle.std.specs.Prelude.{map, ℕ, ◌-◌, ◌^◌, ◌<◌, ◌≤◌, ◌≡◌, ◌&&◌, not, List, [], ◌∷◌, length, All, Bool, true, ⊤}
 use Rattle.nook_data.specs.declared.limits.TheConstants.{MOST_ARRIVALS, MOST_BAD_BLOCKS, MOST_DISK_BLOCKS}
 use Rattle.nook_data.specs.declared.limits.TheConstants.{MOST_FAILURES, MOST_FAULTS, MOST_FRAME_WORDS, MOST_OPS}
-use Rattle.nook_data.specs.declared.limits.TheConstants.{MOST_PARTS, MOST_THREADS, MOST_TURNS}
+use Rattle.nook_data.specs.declared.limits.TheConstants.{MOST_PARTS, MOST_THREADS, MOST_INSTRUCTIONS}
 use Rattle.nook_data.specs.declared.memory_map.TheConstants.{TEXT_WORDS, DATA_WORDS}
 use Rattle.nook_data.specs.Classes.{entry_count}
 use Rattle.nook_data.specs.Names.{is_among, is_name}
@@ -12,25 +12,25 @@ use Rattle.nook_data.specs.declared.classes.Class.TheVariants as class
 use Rattle.nook_data.specs.declared.scenario.FaultKind.TheVariants as strikes
 use Rattle.nook_data.specs.declared.scenario.ScheduleSpec.TheVariants as schedule
 
--- The limits that images, parts and scenarios keep. Every call that takes one has this as its condition, and every
--- reader gives what keeps it.
+-- The limits of images, parts and scenarios. Every call that takes one of these requires its limits, and every
+-- reader ensures them.
 
 -- a number of 32 bits
 abbrev pub IsWord : ℕ → Type 0
 IsWord word = word < 2 ^ 32
 
--- up to so many words
+-- up to this many words
 abbrev pub AreWords : ℕ → List ℕ → Type 0
 AreWords most words = (length words ≤ most) × All IsWord words
 
--- an image has a place in the text for each entry of its class, and up to 2,048 text words and initial words
+-- an image has an index into the text for each entry of its class, and up to 2,048 text words and initial words
 pub record IsValidImage (image : Image) : Type 0 where
   pub entries : length image.entries ≡ entry_count image.class
-  pub places : All (λ place. place ≤ TEXT_WORDS - 1) image.entries
+  pub addresses : All (λ position. position ≤ TEXT_WORDS - 1) image.entries
   pub text : AreWords TEXT_WORDS image.text
   pub initial : AreWords DATA_WORDS image.initial
 
--- a fault's numbers are words, and its register is one
+-- a fault's numbers are words, and its register is one of the 16
 abbrev pub IsValidKind : FaultKind → Type 0
 IsValidKind strikes.Trap = ⊤
 IsValidKind strikes.Hang = ⊤
@@ -38,13 +38,13 @@ IsValidKind (strikes.Poke address value) = IsWord address × IsWord value
 IsValidKind (strikes.Code address value) = IsWord address × IsWord value
 IsValidKind (strikes.Reg register value) = (register ≤ 15) × IsWord value
 
--- a fault of burst 1 or later, after up to 4,095 turns
+-- a fault of burst 1 or later, after up to 4,095 instructions
 pub record IsValidFault (fault : Fault) : Type 0 where
   pub burst : (1 ≤ fault.burst) × IsWord fault.burst
-  pub after : fault.after ≤ MOST_TURNS - 1
+  pub after : fault.after ≤ MOST_INSTRUCTIONS - 1
   pub kind : IsValidKind fault.kind
 
--- a bad block of a disk of so many blocks
+-- a bad block of a disk with this many blocks
 pub record IsValidBadBlock (blocks : ℕ) (bad : BadBlock) : Type 0 where
   pub block : bad.block < blocks
   pub after : IsWord bad.after
@@ -57,7 +57,7 @@ FitsClass class.Net part =
     × All (λ frame. (1 ≤ length frame) × AreWords MOST_FRAME_WORDS frame) part.arrivals
 FitsClass class.Sound part = (part.blocks ≡ 0) × (part.bad ≡ []) × (part.arrivals ≡ [])
 
--- a part keeps every limit, and its image is of its class
+-- a part is within every limit, and its image is of its class
 pub record IsValidPart (part : PartSpec) : Type 0 where
   pub name : is_name part.name ≡ true
   pub fits : FitsClass part.class part
@@ -81,7 +81,7 @@ IsValidOp op.Close = ⊤
 IsValidOp (op.Get key) = IsWord key
 IsValidOp (op.Set key value) = IsWord key × IsWord value
 
--- a thread of a scenario of so many parts, each operation on one of them
+-- a thread of a scenario with this many parts; each operation is on one of them
 pub record IsValidThread (parts : ℕ) (thread : ThreadSpec) : Type 0 where
   pub name : is_name thread.name ≡ true
   pub op_count : length thread.ops ≤ MOST_OPS
@@ -101,12 +101,12 @@ part_names parts = map (λ part. part.name) parts
 abbrev pub thread_names : List ThreadSpec → List (List ℕ)
 thread_names threads = map (λ thread. thread.name) threads
 
--- no name stands twice
+-- no name occurs twice
 abbrev pub are_distinct : List (List ℕ) → Bool
 are_distinct [] = true
 are_distinct (name ∷ more) = not (is_among more name) && are_distinct more
 
--- 1 to 8 parts and up to 16 threads, each valid and each with a name of its own
+-- 1 to 8 parts and up to 16 threads, each valid and each with its own name
 pub record IsValidScenario (scenario : Scenario) : Type 0 where
   pub schedule : IsValidSchedule scenario.schedule
   pub part_count : (1 ≤ length scenario.parts) × (length scenario.parts ≤ MOST_PARTS)

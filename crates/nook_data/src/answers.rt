@@ -10,7 +10,7 @@ use crate::steps::Event;
 use std::alloc::Global;
 
 impl Event {
-    /// The answer that the event gives to the call with this number, counted from 1; None where it gives it none.
+    /// The answer that the event gives to the call with this number, counted from 1; `None` if it gives it none.
     pub fn answer_to(&self, call: u32) -> Option<&Answer>
         ensures { MatchOption result (answer_at call self.now ≡ None) (λ answer. answer_at call self.now ≡ Some answer.now) }
     {
@@ -35,7 +35,7 @@ impl Event {
         }
     }
 
-    /// A copy of that answer.
+    /// A copy of the answer that `answer_to` returns.
     pub fn copy_of_answer(&self, alloc: Global, call: u32) -> Result<Option<Answer>, NoMemory>
         ensures { IfOk result (λ answer. answer ≡ answer_at call self.now) }
     {

@@ -1,4 +1,4 @@
-//! What applications ask of a part, and what they are answered.
+//! What applications ask of a part, and the answers that they get.
 
 use crate::lists::{Items, Words};
 use crate::steps::Stage;
@@ -6,27 +6,27 @@ use crate::steps::Stage;
 /// What an application asks of a part.
 #[derive(Debug, PartialEq, Eq, Drop)]
 pub enum Op {
-    /// `count` blocks (1 to 8) from block `first` on.
+    /// Reads `count` blocks (1 to 8), starting at block `first`.
     Read { first: u32, count: u32 },
-    /// The words of 1 to 8 blocks, 16 each, from block `first` on.
+    /// Writes the words of 1 to 8 blocks, 16 each, starting at block `first`.
     Write { first: u32, words: Words },
-    /// A frame of 1 to 64 words to the wire.
+    /// Sends a frame of 1 to 64 words.
     Send { frame: Words },
-    /// The next received frame, if there is one.
+    /// Takes the next received frame, if there is one.
     Recv,
-    /// The stream, for the calling thread.
+    /// Opens the stream for the calling thread.
     Open,
-    /// 1 to 64 samples.
+    /// Plays 1 to 64 samples.
     Play { samples: Words },
-    /// The stream is given up.
+    /// Closes the stream.
     Close,
-    /// A configuration word, key 0 to 3.
+    /// Reads a configuration word, key 0 to 3.
     Get { key: u32 },
-    /// A configuration word gets a value.
+    /// Sets a configuration word to a value.
     Set { key: u32, value: u32 },
 }
 
-/// What an application is answered.
+/// The answer that an application gets.
 #[derive(Debug, PartialEq, Eq, Drop)]
 pub enum Answer {
     Done,
@@ -36,7 +36,7 @@ pub enum Answer {
     Empty,
     /// The part recovers and is at this stage.
     Busy { stage: Stage },
-    /// This thread has the stream.
+    /// This thread holds the stream.
     InUse { holder: u8 },
     NotOpen,
     BadRange,
@@ -46,7 +46,7 @@ pub enum Answer {
     BadClass,
     /// The medium failed at this block.
     IoError { block: u32 },
-    /// The part was given up at so many failures.
+    /// The part was given up after this many failures.
     Gone { failures: u32 },
 }
 
@@ -63,10 +63,10 @@ pub struct CallEntry {
 /// Numbers of calls, each with its answer.
 pub type CallAnswers = Items<(u32, Answer)>;
 
-/// A script: a part's place and an operation.
+/// A script: pairs of a part's index and an operation.
 pub type PartOps = Items<(u32, Op)>;
 
-/// A thread's answers: a part's place and an answer.
+/// A thread's answers: pairs of a part's index and an answer.
 pub type PartAnswers = Items<(u32, Answer)>;
 
 /// Each thread's answers.

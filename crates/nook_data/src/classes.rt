@@ -26,29 +26,29 @@ pub fn class_code(class: Class) -> u32
     }
 }
 
-/// What becomes of a held call when it is entered.
+/// What becomes of a held call at its Enter.
 #[derive(Debug, PartialEq, Eq, Drop)]
 pub enum Admit {
     /// It is answered at once.
     Reply(Answer),
-    /// It is answered with the front of the kernel's receive queue.
+    /// It is answered with the first frame of the kernel's receive queue.
     TakeFrame,
-    /// It goes to its driver: the place, in the class's order, of the driver's entry.
+    /// It goes to its driver, at the entry with this index in the class's order.
     Enter { entry: u32 },
 }
 
 /// What becomes of a call when its driver replies.
 #[derive(Clone, Copy, Debug, PartialEq, Eq)]
 pub enum Accept {
-    /// The reply is accepted, and the call has its answer.
+    /// The reply is accepted, and the call is answered.
     Take,
-    /// The reply is accepted: the medium failed at this block.
+    /// The reply is accepted, and reports that the medium failed at this block.
     IoError { block: u32 },
     /// The reply is a failure of the driver.
     Fail(FailCause),
 }
 
-/// What of a part's state a class looks at: the thread that has the stream, and the number of frames in the
+/// What a class needs to know of a part's state: the thread that holds the stream, and the number of frames in the
 /// kernel's receive queue.
 #[derive(Clone, Copy)]
 pub struct ClassState {
@@ -56,7 +56,7 @@ pub struct ClassState {
     pub queued: usize,
 }
 
-/// A class's name.
+/// The name of a class.
 pub fn class_text(class: Class) -> &'static str
     ensures { result.now ≡ class_text class }
 {
@@ -67,7 +67,7 @@ pub fn class_text(class: Class) -> &'static str
     }
 }
 
-/// The class of a name.
+/// The class with a name.
 #[tactic(auto, unfolding(crate::specs::ClassNames::class_named))]
 pub fn class_named(name: &[u8]) -> Option<Class>
     ensures { result ≡ class_named name.now }

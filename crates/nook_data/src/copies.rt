@@ -1,4 +1,4 @@
-//! Copies of the plain data. Each may want memory for the lists inside; an equal value comes back.
+//! Copies of the plain data, equal to the original. Each may run out of memory for the lists inside.
 
 ghost use Rattle.std.specs.Prelude.{◌≡◌, ◌≤◌, length};
 ghost use Rattle.nook_data.specs.Views.Room.{answer_words};
@@ -106,7 +106,7 @@ impl TryCopy for Answer {
 }
 
 impl Answer {
-    /// An equal answer whose words lie in the memory of `room`, which has room for them. It takes no memory.
+    /// An equal answer whose words lie in the memory of `room`, which has room for them. It allocates no memory.
     pub fn copy_in_room(&self, room: Room<u32>) -> Answer
         requires { length (answer_words self.now) ≤ room }
         ensures { result ≡ self.now }

@@ -1,4 +1,4 @@
-//! What a desk gives to the threads that call its part.
+//! What a desk returns to the threads that call its part.
 
 use crate::calls::Answer;
 use crate::lists::Items;
@@ -15,7 +15,7 @@ pub struct Receipt {
 /// Why a desk refused.
 #[derive(Clone, Copy, Debug, PartialEq, Eq)]
 pub enum DeskRefused {
-    /// Where a call is named, it was invoked and is open.
+    /// If a call is named, it was invoked and is open.
     NoMemory { call: Option<u32> },
     TooManyCalls,
     OpenCall { call: u32 },

@@ -5,7 +5,7 @@ use crate::lists::{Items, Words};
 use crate::ring::Ring;
 use crate::scenario::BadBlocks;
 
-/// What a disk keeps beside the registers. `counts` has each block's number of commands.
+/// The state of a disk apart from its registers. `counts` has each block's number of commands.
 #[derive(Drop)]
 pub struct Disk {
     pub medium: Items<[u32; BLOCK_WORDS]>,
@@ -17,7 +17,7 @@ pub struct Disk {
     pub status: u32,
 }
 
-/// What a net device keeps beside the registers. The ring holds at most 16 frames.
+/// The state of a net device apart from its registers. The ring holds at most 16 frames.
 #[derive(Drop)]
 pub struct Link {
     pub length: u32,
@@ -27,7 +27,7 @@ pub struct Link {
     pub reading: u32,
 }
 
-/// What a device is beside its registers.
+/// The state of a device apart from its registers.
 #[derive(Drop)]
 pub enum DeviceKind {
     Disk(Disk),
@@ -35,7 +35,7 @@ pub enum DeviceKind {
     Speaker,
 }
 
-/// A device: its four configuration registers and the rest of its kind.
+/// A device: its four configuration registers, and the state of its kind.
 #[derive(Drop)]
 pub struct DeviceState {
     pub registers: [u32; 4],

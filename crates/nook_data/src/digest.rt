@@ -1,20 +1,20 @@
-//! Digests: numbers that are the same for values that are the same. No result depends on them: they say which values are
-//! worth a comparison.
+//! Digests: equal values have equal digests. No result depends on them: they show which values are worth
+//! comparing.
 
 use crate::lists::Word;
 
-/// The number that a digest begins with.
+/// The digest of no numbers.
 pub const NO_DIGEST: u64 = 0;
 
-/// What each number is multiplied with, so that its low bits reach the high ones.
+/// The factor for each number, so that its low bits affect the high ones.
 const SPREAD: u64 = 0x517c_c1b7_2722_0a95;
 
-/// A digest, and one number more.
+/// The digest after one more number.
 pub fn mixed(digest: u64, number: u64) -> u64 {
     (digest.rotate_left(5) ^ number).wrapping_mul(SPREAD)
 }
 
-/// A digest, and words more.
+/// The digest after more words.
 pub fn mixed_words(digest: u64, words: &[Word]) -> u64 {
     let mut digest = digest;
     for word in words {

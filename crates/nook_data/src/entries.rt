@@ -1,8 +1,8 @@
-//! What a driver holds of the kernel.
+//! What a driver holds of the kernel's resources.
 
 use crate::lists::Items;
 
-/// What the tracker records that a driver holds.
+/// One resource that a driver holds, as the tracker records it.
 #[derive(Clone, Copy, Debug, PartialEq, Eq)]
 pub enum Entry {
     /// Heap words.

@@ -1,4 +1,4 @@
-//! The journal of a part, with room that is taken before an event is made, and the log of a burst's acts.
+//! The journal of a part, with room that is allocated before an event is made, and the log of a burst's acts.
 
 ghost use Rattle.std.specs.Prelude.{◌≡◌, ◌<◌, ◌≤◌, [], ◌∷◌, ◌++◌, ◌+◌, All, length, slice_get, IfOk, OnErr, OnOk};
 
@@ -28,7 +28,7 @@ impl Model for Journal {
 }
 
 impl Journal {
-    /// The empty journal. It takes no memory.
+    /// The empty journal. It allocates no memory.
     pub fn new(alloc: Global) -> Journal
         ensures { result.list ≡ [] }
     {
@@ -37,7 +37,7 @@ impl Journal {
         }
     }
 
-    /// Takes room for one more event at least.
+    /// Allocates room for at least one more event.
     pub fn reserve(&mut self) -> Result<(), NoMemory>
         ensures same { self.new.list ≡ self.old.list }
         ensures room { OnOk result (1 ≤ self.new.spare) }
@@ -46,7 +46,7 @@ impl Journal {
         Ok(())
     }
 
-    /// Adds an event at the back, and takes room for it where none is to spare. After `NoMemory` the events are as before.
+    /// Appends an event, and allocates room for it if none is spare. After `NoMemory` the events are unchanged.
     pub fn push(&mut self, event: Event) -> Result<(), NoMemory>
         ensures ok { OnOk result (self.new.list ≡ self.old.list ++ event ∷ []) }
         ensures err { OnErr result (self.new.list ≡ self.old.list) }
@@ -56,7 +56,7 @@ impl Journal {
         Ok(())
     }
 
-    /// Adds an event at the back. It takes no memory.
+    /// Appends an event. It allocates no memory.
     pub fn push_reserved(&mut self, event: Event)
         requires { 1 ≤ self.old.spare }
         ensures { self.new.list ≡ self.old.list ++ event ∷ [] }
@@ -64,7 +64,7 @@ impl Journal {
         self.events.push(event).unwrap();
     }
 
-    /// An equal list of events of its own.
+    /// A separate journal with equal events.
     pub fn copied(&self, alloc: Global) -> Result<Journal, NoMemory>
         ensures { IfOk result (λ made. made.list ≡ self.now.list) }
     {
@@ -80,7 +80,7 @@ impl Journal {
         self.events.len()
     }
 
-    /// The event at place `i`, counted from 0.
+    /// The event at index `i`.
     pub fn get(&self, i: usize) -> &Event
         requires { i < length self.now.list }
         ensures { slice_get self.now.list i ≡ Some result.now }
@@ -96,11 +96,11 @@ impl Journal {
     }
 }
 
-/// The words of one act at most: those of a frame.
+/// The most words of one act: those of a frame.
 const ACT_WORDS: usize = MOST_FRAME_WORDS;
 
-/// The acts of a burst as they are made, with room for 64 that is taken before the burst. Contracts see the list.
-/// `SpareRooms` opens it and closes it.
+/// The acts of a burst as they are made, with room for 64 that is allocated before the burst. Contracts see the list.
+/// `SpareRooms` opens and closes it.
 #[derive(Drop)]
 pub struct ActLog {
     alloc: Global,
@@ -129,7 +129,7 @@ impl ActLog {
         self.acts.len()
     }
 
-    /// A block came from the medium.
+    /// Records that a block was loaded from the medium.
     pub fn load(&mut self, block: u32)
         requires { length self.old < MOST_ACTS }
         ensures { self.new ≡ self.old ++ Act.Load block ∷ [] }
@@ -137,7 +137,7 @@ impl ActLog {
         self.acts.push(Act::Load { block }).unwrap();
     }
 
-    /// A block went to the medium.
+    /// Records that a block was stored on the medium.
     pub fn store(&mut self, block: u32, words: &[u32; 16])
         requires { length self.old < MOST_ACTS }
         ensures { self.new ≡ self.old ++ Act.Store block words.now ∷ [] }
@@ -146,7 +146,7 @@ impl ActLog {
         self.acts.push(Act::Store { block, words }).unwrap();
     }
 
-    /// A command met a bad block; `store` tells which command.
+    /// Records that a command met a bad block; `store` says which command.
     pub fn failed(&mut self, block: u32, store: bool)
         requires { length self.old < MOST_ACTS }
         ensures { self.new ≡ self.old ++ Act.Failed block store ∷ [] }
@@ -154,7 +154,7 @@ impl ActLog {
         self.acts.push(Act::Failed { block, store }).unwrap();
     }
 
-    /// A frame of at most 64 words went to the wire.
+    /// Records that a frame of at most 64 words was sent.
     pub fn sent(&mut self, frame: &[u32])
         requires room { length self.old < MOST_ACTS }
         requires words { length frame.now ≤ ACT_WORDS }
@@ -164,7 +164,7 @@ impl ActLog {
         self.acts.push(Act::Sent { frame }).unwrap();
     }
 
-    /// A frame left the ring.
+    /// Records that a frame left the ring.
     pub fn popped(&mut self, frame: Words)
         requires { length self.old < MOST_ACTS }
         ensures { self.new ≡ self.old ++ Act.Popped frame ∷ [] }
@@ -172,7 +172,7 @@ impl ActLog {
         self.acts.push(Act::Popped { frame }).unwrap();
     }
 
-    /// A sample was played at a rate and a volume.
+    /// Records that a sample was played at a rate and a volume.
     pub fn played(&mut self, sample: u32, rate: u32, volume: u32)
         requires { length self.old < MOST_ACTS }
         ensures { self.new ≡ self.old ++ Act.Played sample rate volume ∷ [] }
@@ -186,7 +186,7 @@ impl ActLog {
             .unwrap();
     }
 
-    /// A configuration register got a value.
+    /// Records that a configuration register was set to a value.
     pub fn register(&mut self, key: u32, value: u32)
         requires { length self.old < MOST_ACTS }
         ensures { self.new ≡ self.old ++ Act.Register key value ∷ [] }
@@ -195,12 +195,12 @@ impl ActLog {
     }
 }
 
-/// Memory for acts and rooms for their words, which the bursts of a part hand on to one another: a burst takes anew what
-/// the one before it used up. Contracts see the number of rooms.
+/// Memory for acts and rooms for their words. The bursts of a part share it: a burst allocates again what the previous
+/// one used up. Contracts see the number of rooms.
 #[derive(Drop)]
 pub struct SpareRooms {
     alloc: Global,
-    /// No acts: memory for those of the next burst.
+    /// An empty list: the memory for the acts of the next burst.
     acts: Vec<Act>,
     rooms: Vec<Room<u32>>,
 }
@@ -217,7 +217,7 @@ impl Model for SpareRooms {
 }
 
 impl SpareRooms {
-    /// No rooms yet. It takes no memory.
+    /// No rooms yet. It allocates no memory.
     pub fn new(alloc: Global) -> SpareRooms
         ensures { result ≡ 0 }
     {
@@ -228,8 +228,8 @@ impl SpareRooms {
         }
     }
 
-    /// The empty log of a burst, with room for 64 acts and for 64 words of each. The memory that is here goes into it,
-    /// and what it lacks is taken. After `NoMemory` no room is lost: there are as many as before, or more.
+    /// The empty log of a burst, with room for 64 acts and 64 words of each. It takes over the memory of `self`, and
+    /// what is missing. After `NoMemory` no room is lost: there are as many as before, or more.
     pub fn open_log(&mut self) -> Result<ActLog, NoMemory>
         ensures log { IfOk result (λ log. log ≡ []) }
         ensures used { OnOk result (self.new ≡ 0) }
@@ -243,8 +243,8 @@ impl SpareRooms {
         Ok(ActLog { alloc, acts, rooms })
     }
 
-    /// The acts of a log, in a list of their size where there is memory for it. The rooms that they left are kept in
-    /// place of those that are here; an act uses one at most.
+    /// The acts of a log, in a list of their size if there is memory for it. The log's remaining rooms replace
+    /// those of `self`; an act uses at most one.
     pub fn close_log(&mut self, log: ActLog) -> Acts
         ensures acts { result ≡ log }
         ensures kept { MOST_ACTS ≤ length log + self.new }
@@ -255,7 +255,7 @@ impl SpareRooms {
             ..
         } = log;
         self.rooms = rooms;
-        // The long list stays for the next burst, if its acts can move.
+        // Keep the long list for the next burst, if its acts can move.
         let Ok(mut own) = Vec::with_capacity(self.alloc, acts.len()) else {
             return Items::from_vec(acts);
         };
@@ -267,7 +267,7 @@ impl SpareRooms {
     }
 }
 
-/// Takes rooms for 64 words until there are 64 rooms. Those that are there stay, also after `NoMemory`.
+/// Allocates rooms for 64 words until there are 64 rooms. The existing rooms stay, also after `NoMemory`.
 fn fill_rooms(alloc: Global, rooms: &mut Vec<Room<u32>>) -> Result<(), NoMemory>
     requires rooms { All (λ room. ACT_WORDS ≤ room) rooms.old.items }
     ensures rooms { All (λ room. ACT_WORDS ≤ room) rooms.new.items }
@@ -280,7 +280,7 @@ fn fill_rooms(alloc: Global, rooms: &mut Vec<Room<u32>>) -> Result<(), NoMemory>
     Ok(())
 }
 
-/// The words as a list of their own: in memory of its size, or where there is none in a room of `rooms`, which is used up.
+/// A separate list of the words: in memory of its size or, if that is refused, in a room taken from `rooms`.
 fn kept(alloc: Global, rooms: &mut Vec<Room<u32>>, words: &[u32]) -> Words
     requires some { 0 < length rooms.old.items }
     requires rooms { All (λ room. ACT_WORDS ≤ room) rooms.old.items }

@@ -1,5 +1,5 @@
-//! The plain data of the simulator: what scenarios, journals, calls, devices and domains are made of, and the limits
-//! that they keep.
+//! The plain data of the simulator: what scenarios, journals, calls, devices and domains are made of, and
+//! their limits.
 #![tactic(auto)]
 
 pub mod answers;

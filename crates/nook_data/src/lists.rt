@@ -1,4 +1,4 @@
-//! The one list type: contracts see it as the list of its items. Its aliases name what they hold.
+//! The list type that all data uses. Contracts see it as the list of its items; its aliases name what they hold.
 
 ghost use Rattle.std.specs.Prelude.{◌≡◌, ◌==◌, ◌+◌, ◌^◌, ◌<◌, ◌≤◌, ℕ, [], ◌∷◌, ◌++◌, List, Some, length, slice_get, slice_set, IfOk, OnOk, OnErr, option_copied};
 ghost use Rattle.std.specs.Iterator.Runs.{EveryRun, ItemsMapTo};
@@ -26,7 +26,7 @@ impl<T> Model for Items<T> {
 }
 
 impl<T> Items<T> {
-    /// The empty list. It takes no memory.
+    /// The empty list. It allocates no memory.
     pub fn new(alloc: Global) -> Self
         ensures { result ≡ [] }
     {
@@ -49,14 +49,14 @@ impl<T> Items<T> {
         self.items.is_empty()
     }
 
-    /// The first item; `None` exactly where there is none.
+    /// The first item; `None` exactly if the list is empty.
     pub fn first(&self) -> Option<&T>
         ensures { option_copied result ≡ slice_get self.now 0 }
     {
         self.items.first()
     }
 
-    /// The item at place `i`, counted from 0.
+    /// The item at index `i`.
     pub fn get(&self, i: usize) -> &T
         requires { i < length self.now }
         ensures { slice_get self.now i ≡ Some result.now }
@@ -81,21 +81,21 @@ impl<T> Items<T> {
         self.items.iter()
     }
 
-    /// The list of a vector's items.
+    /// A list of the items of a vector.
     pub fn from_vec(items: Vec<T>) -> Self
         ensures { result ≡ items.items }
     {
         Items { items }
     }
 
-    /// The vector of the list's items.
+    /// A vector of the items of the list.
     pub fn into_vec(self) -> Vec<T>
         ensures { result.items ≡ self }
     {
         self.items
     }
 
-    /// The same list without the room that its items do not use. It takes no memory.
+    /// The same list without the room that its items do not use. It allocates no memory.
     pub fn fitted(self) -> Self
         ensures { result ≡ self }
     {
@@ -119,7 +119,7 @@ impl<'a, T> IntoIterator for &'a Items<T> {
 }
 
 impl<T: Drop> Items<T> {
-    /// Adds an item at the back.
+    /// Appends an item.
     pub fn push(&mut self, item: T) -> Result<(), NoMemory>
         ensures ok { OnOk result (self.new ≡ self.old ++ item ∷ []) }
         ensures err { OnErr result (self.new ≡ self.old) }
@@ -128,7 +128,7 @@ impl<T: Drop> Items<T> {
         Ok(())
     }
 
-    /// Puts an item in place of the one at place `i`, counted from 0.
+    /// Replaces the item at index `i`.
     pub fn set(&mut self, i: usize, item: T)
         requires { i < length self.old }
         ensures { self.new ≡ slice_set self.old i item }
@@ -138,7 +138,7 @@ impl<T: Drop> Items<T> {
 }
 
 impl<T: Copy> Items<T> {
-    /// An equal list of its own.
+    /// A separate, equal list.
     pub fn copied(&self, alloc: Global) -> Result<Items<T>, NoMemory>
         ensures { IfOk result (λ made. made ≡ self.now) }
     {
@@ -147,7 +147,7 @@ impl<T: Copy> Items<T> {
         Ok(Items { items })
     }
 
-    /// An equal list in the memory of `room`, which has room for it. It takes no memory.
+    /// An equal list in the memory of `room`, which has room for it. It allocates no memory.
     pub fn copy_in_room(&self, room: Room<T>) -> Items<T>
         requires { length self.now ≤ room }
         ensures { result ≡ self.now }
@@ -172,9 +172,9 @@ impl<T: Eq> Eq for Items<T> {
     ghost laws = { lists_equiv T.Eq.laws };
 }
 
-/// A copy that may want memory.
+/// Copying that may run out of memory.
 pub trait TryCopy {
-    /// An equal value of its own.
+    /// A separate, equal value.
     fn copy(&self, alloc: Global) -> Result<Self, NoMemory>
         ensures { IfOk result (λ made. made ≡ self.now) };
 }
@@ -242,8 +242,8 @@ pub type Picks = Items<u16>;
 pub type Frames = Items<Words>;
 
 impl Items<u32> {
-    /// An empty list; memory for `n` words is asked for it. That they fit is no promise, since contracts see a list's items
-    /// alone: `Room` is memory whose size they see.
+    /// An empty list, allocated with room for `n` words. That they fit is not promised: contracts see only a list's
+    /// items. A `Room` is memory whose size they see.
     pub fn with_room(alloc: Global, n: u32) -> Result<Words, NoMemory>
         ensures { IfOk result (λ made. made ≡ []) }
     {

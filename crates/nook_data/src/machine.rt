@@ -7,7 +7,7 @@ use crate::lists::{Items, Word, Words};
 pub enum Act {
     Load { block: u32 },
     Store { block: u32, words: Words },
-    /// A command on a bad block; `store` tells which of the two commands.
+    /// A command on a bad block; `store` says which of the two commands.
     Failed { block: u32, store: bool },
     Sent { frame: Words },
     Popped { frame: Words },
@@ -32,12 +32,12 @@ pub enum TrapCause {
 pub type Acts = Items<Act>;
 
 /// One instruction of the driver machine. Fields `a` and `b` are register numbers (0 to 15), `imm` is the
-/// immediate, without a sign. R(a) is register a.
+/// unsigned immediate. R(a) is register a.
 #[derive(Clone, Copy)]
 pub enum Instr {
     /// R(a) = imm.
     Li { a: u8, imm: u16 },
-    /// The upper 16 bits of R(a) = imm; the lower stay.
+    /// The upper 16 bits of R(a) = imm; the lower 16 stay.
     Lui { a: u8, imm: u16 },
     /// R(a) = R(b).
     Mov { a: u8, b: u8 },
@@ -51,9 +51,9 @@ pub enum Instr {
     Or { a: u8, b: u8 },
     /// R(a) = R(a) exclusive or R(b), bit by bit.
     Xor { a: u8, b: u8 },
-    /// R(a) shifted to the left by R(b) modulo 32; zeros come in.
+    /// R(a) is shifted left by R(b) modulo 32; zeros come in.
     Shl { a: u8, b: u8 },
-    /// R(a) shifted to the right by R(b) modulo 32; zeros come in.
+    /// R(a) is shifted right by R(b) modulo 32; zeros come in.
     Shr { a: u8, b: u8 },
     /// R(a) = R(b) + imm, modulo 2^32.
     Addi { a: u8, b: u8, imm: u16 },
@@ -63,25 +63,25 @@ pub enum Instr {
     St { a: u8, b: u8, imm: u16 },
     /// The counter becomes imm.
     Jmp { imm: u16 },
-    /// The counter becomes imm where R(a) and R(b) are equal.
+    /// The counter becomes imm if R(a) and R(b) are equal.
     Beq { a: u8, b: u8, imm: u16 },
-    /// The counter becomes imm where R(a) and R(b) differ.
+    /// The counter becomes imm if R(a) and R(b) differ.
     Bne { a: u8, b: u8, imm: u16 },
-    /// The counter becomes imm where R(a) is below R(b), without sign.
+    /// The counter becomes imm if R(a) is less than R(b), unsigned.
     Blt { a: u8, b: u8, imm: u16 },
     /// R(a) = counter + 1, and the counter becomes imm.
     Jal { a: u8, imm: u16 },
     /// The counter becomes R(a).
     Jr { a: u8 },
-    /// R(a) = what the device gives at port imm.
+    /// R(a) = the word that the device returns at port imm.
     In { a: u8, imm: u16 },
     /// The device gets R(a) at port imm.
     Out { a: u8, imm: u16 },
-    /// A crossing: kernel service imm.
+    /// A crossing: a call of kernel service imm.
     Kcall { imm: u16 },
-    /// A crossing: the reply with status R(a).
+    /// A crossing: a reply with status R(a).
     Ret { a: u8 },
-    /// A trap of the driver's own.
+    /// An explicit trap by the driver.
     Fault,
 }
 
@@ -99,13 +99,13 @@ pub enum BurstEnd {
     Kcall { service: u32 },
     /// The driver replies with a status.
     Reply { status: u32 },
-    /// The 64th device act was done.
+    /// The driver did its 64th device act.
     Pause,
     /// The driver was stopped.
     Trap(TrapCause),
 }
 
-/// A context that is Inside: its processor and the bursts of its attempt so far.
+/// A context that is Inside: its processor, and the number of bursts of its attempt so far.
 #[derive(Clone, Copy)]
 pub struct Context {
     pub cpu: Cpu,
@@ -115,25 +115,25 @@ pub struct Context {
 /// A kernel service whose arguments passed their check.
 #[derive(Clone, Copy)]
 pub enum Service {
-    /// `n` words of the heap, 1 to 2,048.
+    /// Allocates `n` words of the heap, 1 to 2,048.
     Alloc { n: u32 },
-    /// The heap words that start at `address` are given up.
+    /// Frees the heap words that start at `address`.
     Free { address: u32 },
-    /// The driver makes itself known.
+    /// Registers the driver.
     Register,
-    /// A copy of kernel object 1 to 12 in the heap.
+    /// Copies kernel object 1 to 12 to the heap.
     Borrow { object: u32 },
-    /// The copy is written to the object.
+    /// Writes the copy back to the object.
     GiveBack { object: u32 },
-    /// A received frame of `len` words (1 to 64) at `start` is handed up.
+    /// Hands up a received frame of `len` words (1 to 64) at `start`.
     NetRx { start: u32, len: u32 },
-    /// The word stands in the event.
+    /// Logs a word, which the event shows.
     Log,
-    /// Nothing.
+    /// Does nothing.
     Yield,
 }
 
-/// A kernel call that failed its check: the smallest failing argument, where 0 is the service itself.
+/// A kernel call that failed its check: its first invalid argument, or 0 if the service itself is invalid.
 #[derive(Clone, Copy)]
 pub struct BadParam {
     pub service: u32,

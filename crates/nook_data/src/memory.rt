@@ -1,11 +1,11 @@
-//! Want of memory, and room that is taken before it is needed.
+//! Running out of memory, and room that is allocated before it is needed.
 
 ghost use Rattle.std.specs.Prelude.{◌≡◌, ◌≤◌, ℕ, [], List, length, IfOk, vec_capacity};
 
 use std::alloc::{AllocError, AllocFailed, Global};
 use std::marker::Model;
 
-/// An allocation was refused. Whatever was lent to the call that answers it is unchanged.
+/// An allocation was refused. What the failed call borrowed is unchanged.
 #[derive(Clone, Copy, Debug, PartialEq, Eq)]
 pub struct NoMemory;
 
@@ -21,7 +21,7 @@ impl<T: Drop> From<AllocFailed<T>> for NoMemory {
     }
 }
 
-/// Empty memory for a number of items. A call that is handed a room fills it and so takes no memory itself.
+/// Empty memory for a number of items. A call that is handed a room fills it and so allocates no memory itself.
 /// Contracts see the number of items that fit.
 #[derive(Drop)]
 pub struct Room<T> {
@@ -37,7 +37,7 @@ impl<T> Model for Room<T> {
 }
 
 impl<T> Room<T> {
-    /// Takes room for at least `count` items.
+    /// Allocates room for at least `count` items.
     pub fn new(alloc: Global, count: usize) -> Result<Self, NoMemory>
         ensures { IfOk result (λ room. count ≤ room) }
     {
@@ -46,7 +46,7 @@ impl<T> Room<T> {
         })
     }
 
-    /// The empty vector inside, whose capacity is the room.
+    /// The empty vector inside; its capacity is the size of the room.
     pub fn into_vec(self) -> Vec<T>
         ensures empty { result.items ≡ [] }
         ensures room { vec_capacity result ≡ self }

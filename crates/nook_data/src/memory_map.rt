@@ -1,4 +1,4 @@
-//! The memory map of a domain: what stands where in its words.
+//! The memory map of a domain: which region each address belongs to.
 //!
 //! | First address | Words | Region |
 //! |---|---|---|
@@ -9,56 +9,56 @@
 //! | 7,360 | 64 for each of the 13 kernel objects | kernel objects |
 //! | 8,192 | | past the end |
 //!
-//! Code, clauses and definitions name these numbers, and write none of them.
+//! Code, clauses and definitions use these names, never the bare numbers.
 
 ghost use Rattle.std.specs.Prelude.{◌≡◌, ◌+◌, ◌<◌, ◌≤◌};
 ghost use Rattle.nook_data.specs.Layout.{buffer_start, object_start, stack_end};
 
 use crate::limits::CONTEXTS;
 
-/// The words of a page.
+/// The number of words of a page.
 pub const PAGE_WORDS: u32 = 64;
 
-/// The words of text, which stand at the lowest addresses.
+/// The number of words of text, which has the lowest addresses.
 pub const TEXT_WORDS: u32 = 2048;
 
 /// The first address of the data.
 pub const DATA_START: u32 = TEXT_WORDS;
 
-/// The words of data: the initial words of the image, and behind them the heap.
+/// The number of words of data: the initial words of the image, followed by the heap.
 pub const DATA_WORDS: u32 = 2048;
 
 /// The first address past the data, where the stacks begin.
 pub const DATA_END: u32 = DATA_START + DATA_WORDS;
 
-/// The words of a context's stack.
+/// The number of words of a context's stack.
 pub const STACK_WORDS: u32 = PAGE_WORDS;
 
 /// The first address past the stacks, where the buffers begin.
 pub const STACKS_END: u32 = DATA_END + STACK_WORDS * CONTEXTS as u32;
 
-/// The words of a context's buffer.
+/// The number of words of a context's buffer.
 pub const BUFFER_WORDS: u32 = 2 * PAGE_WORDS;
 
 /// The first address past the buffers, where the kernel objects begin.
 pub const BUFFERS_END: u32 = STACKS_END + BUFFER_WORDS * CONTEXTS as u32;
 
-/// The words of a kernel object.
+/// The number of words of a kernel object.
 pub const OBJECT_WORDS: u32 = PAGE_WORDS;
 
-/// The kernel objects: object 0 is the driver's record, and the driver may borrow the others.
+/// The number of kernel objects: object 0 is the driver's record, and the driver may borrow the others.
 pub const OBJECTS: u32 = 13;
 
 /// The last kernel object.
 pub const LAST_OBJECT: u32 = OBJECTS - 1;
 
-/// All words of a domain.
+/// The number of words of a domain.
 pub const MEMORY_WORDS: u32 = BUFFERS_END + OBJECT_WORDS * OBJECTS;
 
-/// All pages of a domain.
+/// The number of pages of a domain.
 pub const PAGES: usize = (MEMORY_WORDS / PAGE_WORDS) as usize;
 
-/// The pages below the kernel objects.
+/// The number of pages below the kernel objects.
 pub const OWN_PAGES: usize = (BUFFERS_END / PAGE_WORDS) as usize;
 
 const _: () = prove!(DATA_END == 4096);

@@ -1,17 +1,17 @@
-//! What a mirror answers.
+//! The answers of a mirror.
 
 use crate::lists::{Items, Words};
 
-/// What a mirror of two disks answers.
+/// An answer of a mirror of two disks.
 #[derive(Debug, Drop, PartialEq)]
 pub enum MirrorAnswer {
     Done,
     Blocks(Words),
-    /// The medium failed at this block, on each side that was asked and is still there.
+    /// The medium failed at this block, on each side that was asked and is not lost.
     IoError { block: u32 },
     BadRange,
     BadLength,
-    /// Neither side is left.
+    /// Both sides are lost.
     BothLost,
 }
 

@@ -27,7 +27,7 @@ impl Model for Name {
 }
 
 impl Name {
-    /// The name of these bytes; `None` exactly where they are no name. It takes no memory.
+    /// The name with these bytes; `None` exactly if they are not a name. It allocates no memory.
     pub fn new(bytes: &[u8]) -> Option<Name>
         ensures { result ≡ (if is_name bytes.now then Some bytes.now else None) }
     {
@@ -40,7 +40,7 @@ impl Name {
         })
     }
 
-    /// An equal name. It takes no memory.
+    /// An equal name. It allocates no memory.
     pub fn copy_of(&self) -> Name
         ensures { result ≡ self.now }
     {
@@ -57,7 +57,7 @@ impl Name {
         self.length
     }
 
-    /// The byte at place `i`, counted from 0.
+    /// The byte at index `i`.
     pub fn get(&self, i: usize) -> u8
         requires { i < length self.now }
         ensures { result ≡ slice_index self.now i }
@@ -83,7 +83,7 @@ impl Name {
     }
 }
 
-/// The bytes, and zeros up to 16.
+/// The bytes, padded with zeros to 16.
 fn padded(bytes: &[u8]) -> [u8; MOST_NAME_BYTES]
     requires { length bytes.now ≤ MOST_NAME_BYTES }
     ensures { take (length bytes.now) result ≡ bytes.now }
@@ -101,14 +101,14 @@ fn is_name(bytes: &[u8]) -> bool
     !bytes.is_empty() && bytes.len() <= MOST_NAME_BYTES && are_name_bytes(bytes)
 }
 
-/// Whether each byte may stand in a name.
+/// Whether each byte may occur in a name.
 fn are_name_bytes(bytes: &[u8]) -> bool
     ensures { result ≡ list_all is_name_byte bytes.now }
 {
     bytes.iter().all(|byte| may_name(*byte))
 }
 
-/// Whether a byte may stand in a name.
+/// Whether a byte may occur in a name.
 fn may_name(byte: u8) -> bool
     ensures { result ≡ is_name_byte byte }
 {

@@ -1,4 +1,4 @@
-//! The receive ring of a net device, with room for its frames that is taken before any frame arrives.
+//! The receive ring of a net device, with room for its frames that is allocated before any frame arrives.
 
 ghost use Rattle.std.specs.Prelude.{◌≡◌, ◌<◌, ◌≤◌, [], ◌∷◌, ◌++◌, length, slice_index_or, Decides, IfOk, MatchOption};
 ghost use Rattle.nook_data.specs.Frames.{head_of};
@@ -48,7 +48,7 @@ impl Ring {
         self.frames.len()
     }
 
-    /// Adds a frame at the back. It takes no memory.
+    /// Appends a frame. It allocates no memory.
     pub fn push(&mut self, frame: Words)
         requires room { length self.old < MOST_RING_FRAMES }
         requires some { 1 ≤ length frame }
@@ -58,7 +58,7 @@ impl Ring {
         self.frames.push_back_reserved(frame);
     }
 
-    /// The length of the first frame, 0 where the ring is empty.
+    /// The length of the first frame, 0 if the ring is empty.
     pub fn head_len(&self) -> Word
         ensures len { result ≡ length (head_of self.now) }
         ensures most { result ≤ MOST_FRAME_WORDS }
@@ -69,24 +69,24 @@ impl Ring {
         }
     }
 
-    /// The first frame's word at a place, 0 past its end and where the ring is empty.
-    pub fn head_word(&self, place: Word) -> Word
-        ensures { result ≡ slice_index_or (head_of self.now) place 0 }
+    /// The first frame's word at an index, 0 past its end or if the ring is empty.
+    pub fn head_word(&self, index: Word) -> Word
+        ensures { result ≡ slice_index_or (head_of self.now) index 0 }
     {
         match self.frames.front() {
-            Some(head) => head.as_slice().get(place as usize).copied().unwrap_or(0),
+            Some(head) => head.as_slice().get(index as usize).copied().unwrap_or(0),
             None => 0,
         }
     }
 
-    /// The first frame leaves the ring, if there is one.
+    /// Takes the first frame off the ring, if there is one.
     pub fn pop(&mut self) -> Option<Words>
         ensures { MatchOption result ((self.old ≡ []) × (self.new ≡ [])) (λ frame. self.old ≡ frame ∷ self.new) }
     {
         self.frames.pop_front()
     }
 
-    /// All frames leave the ring.
+    /// Takes all frames off the ring.
     pub fn clear(&mut self)
         ensures { self.new ≡ [] }
     {
@@ -118,8 +118,8 @@ pub fn are_same_queues(frames: &VecDeque<Words>, others: &VecDeque<Words>) -> bo
 impl TryCopy for Ring {
     fn copy(&self, alloc: Global) -> Result<Ring, NoMemory> {
         let mut made = Ring::new(alloc)?;
-        for place in 0..self.frames.len() {
-            made.push(self.frames[place].copy(alloc)?);
+        for index in 0..self.frames.len() {
+            made.push(self.frames[index].copy(alloc)?);
         }
         Ok(made)
     }

@@ -1,4 +1,4 @@
-//! Whether two values are the same.
+//! Comparison of values.
 
 ghost use Rattle.std.specs.Prelude.{◌≡◌, Decides};
 

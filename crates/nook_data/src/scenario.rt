@@ -1,4 +1,4 @@
-//! What a scenario says: its parts with their drivers and faults, its threads, and its schedule.
+//! What a scenario consists of: its parts with their drivers and faults, its threads, and its schedule.
 
 use crate::calls::PartOps;
 use crate::classes::Class;
@@ -12,15 +12,15 @@ pub enum FaultKind {
     Trap,
     /// The burst ends with the trap Hang.
     Hang,
-    /// A word is written where the driver may write, else nothing.
+    /// A word is written if the driver may write it; otherwise nothing happens.
     Poke { address: u32, value: u32 },
-    /// A text word is written at an address below 2,048, else nothing.
+    /// A text word is written if the address is below 2,048; otherwise nothing happens.
     Code { address: u32, value: u32 },
-    /// A register is set, number 0 to 15, else nothing.
+    /// A register is set if its number is 0 to 15; otherwise nothing happens.
     Reg { register: u8, value: u32 },
 }
 
-/// A fault that strikes in burst `burst` before its turn `after + 1`.
+/// A fault that strikes in burst `burst`, before its instruction number `after + 1`.
 #[derive(Clone, Copy)]
 pub struct Fault {
     pub burst: u32,
@@ -44,8 +44,8 @@ pub struct BadBlock {
     pub after: u32,
 }
 
-/// A part as a scenario gives it. `blocks` is 0 and `bad` is empty for other classes than block; `arrivals`
-/// is empty for other classes than net.
+/// A part as a scenario describes it. `blocks` is 0 and `bad` is empty for classes other than block; `arrivals`
+/// is empty for classes other than net.
 #[derive(Drop)]
 pub struct PartSpec {
     pub name: Name,
@@ -58,7 +58,7 @@ pub struct PartSpec {
     pub arrivals: Frames,
 }
 
-/// An application thread and its script, a list of a part and an operation.
+/// An application thread and its script, a list of pairs of a part and an operation.
 #[derive(Drop)]
 pub struct ThreadSpec {
     pub name: Name,
@@ -73,7 +73,7 @@ pub enum ScheduleSpec {
     Listed { picks: Picks },
 }
 
-/// Everything that a run is determined by.
+/// Everything that determines a run.
 #[derive(Drop)]
 pub struct Scenario {
     pub schedule: ScheduleSpec,

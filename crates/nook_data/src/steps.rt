@@ -14,11 +14,11 @@ pub enum Stage {
     Collect,
     /// The device is reset.
     Reset,
-    /// The image is put in place.
+    /// The image is loaded.
     Load,
     /// The driver's init entry runs.
     Init,
-    /// A configuration word that is no default is set again.
+    /// A configuration word that differs from its default is set again.
     ReplaySet { key: u32, value: u32 },
     /// The stream is opened again for its holder.
     ReplayOpen,
@@ -33,9 +33,9 @@ pub enum Mode {
     Boot { stage: Stage },
     /// The driver serves calls.
     Running,
-    /// From a failure to Resume.
+    /// From a failure to the Resume.
     Recovering { stage: Stage },
-    /// Given up; `collected` tells whether its last Collect is done.
+    /// The part is given up; `collected` says whether its last Collect is done.
     Dead { collected: bool },
 }
 
@@ -43,9 +43,9 @@ pub enum Mode {
 #[derive(Clone, Copy, Debug, PartialEq, Eq)]
 pub enum FailCause {
     Trap(TrapCause),
-    /// A kernel call with an argument that fails its check; 0 is the service itself.
+    /// A kernel call whose argument is invalid; 0 is the service itself.
     BadParam { service: u32, argument: u32 },
-    /// The 32nd burst of an attempt was no reply.
+    /// The 32nd burst of an attempt did not end with a reply.
     TooManyCrossings,
     BadReply { status: u32 },
     BadInit { status: u32 },
@@ -54,7 +54,7 @@ pub enum FailCause {
 /// The crossing at the end of a burst, as an event shows it.
 #[derive(Debug, PartialEq, Eq, Drop)]
 pub enum End {
-    /// A kernel call; there is no result where it was not served. `moved` are the words that it moved.
+    /// A kernel call; it has no result if it was not served. `moved` has the words that it moved.
     Service {
         service: u32,
         first: u32,
@@ -94,7 +94,7 @@ pub enum Event {
         attempt: u32,
         answer: Option<Answer>,
     },
-    /// `call` is 0 for the shadow's own calls; `count` is the number of machine turns.
+    /// `call` is 0 for the shadow's own calls; `count` is the number of instructions.
     Burst {
         context: u8,
         call: u32,

@@ -1,4 +1,4 @@
-//! What is judged and counted of a journal.
+//! Verdicts on a journal, and counts of it.
 
 /// The first event that breaks a clause of the class's contract, and the clause.
 #[derive(Clone, Copy, Debug, PartialEq, Eq)]
@@ -7,7 +7,7 @@ pub struct Break {
     pub clause: u8,
 }
 
-/// What was lost and where frames went.
+/// What was lost, and where frames went.
 #[derive(Clone, Copy, Debug, PartialEq, Eq)]
 pub struct Losses {
     pub sends: u64,

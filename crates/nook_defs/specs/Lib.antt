@@ -5,7 +5,7 @@ pub use Rattle.nook_data.specs.Clauses
 pub use Rattle.nook_data.specs.Answers
 pub use Rattle.nook_data.specs.Frames
 pub use Rattle.nook_data.specs.Layout
-pub use Rattle.nook_data.specs.Places
+pub use Rattle.nook_data.specs.Numbered
 pub use Rattle.nook_data.specs.Valid
 pub use Rattle.nook_data.specs.Members
 pub use Rattle.nook_io.specs.Causes
@@ -13,7 +13,7 @@ pub use Rattle.nook_io.specs.Listening
 pub use Rattle.machine_defs.specs.Machine
 pub use Rattle.machine_defs.specs.Mnemonics
 pub use Rattle.machine_defs.specs.Pages
-pub use Rattle.machine_defs.specs.Turn
+pub use Rattle.machine_defs.specs.Execution
 pub use Rattle.machine_defs.specs.Burst
 pub use Rattle.machine_defs.specs.BurstFaults
 pub use Rattle.machine_defs.specs.Devices

@@ -1,5 +1,5 @@
-//! Every name of the definitions and the plain data in one place. The crates of the repository stand on the parts that
-//! they use, so that a change proves again only what speaks of it.
+//! All names of the definitions and the plain data in one crate. The other crates of the repository import directly
+//! the crates that they use, so that after a change only what refers to it is proved again.
 #![tactic(auto)]
 
 pub use asm_defs::{assembler, keys};

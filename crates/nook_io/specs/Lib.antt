@@ -1,3 +1,4 @@
 pub mod Views
 pub mod Listening
 pub mod Causes
+pub mod Changes

@@ -3,7 +3,7 @@ use Rattle.std.specs.Prelude.{is_some, if◌then◌else◌}
 use Rattle.nook_data.specs.Types.{Event}
 use Rattle.nook_data.specs.declared.steps.Event.TheVariants as events
 
--- the parts and the kinds of event that a listener hears, the total at which it is done, and its total so far
+-- which parts and kinds of event a listener hears, the total at which it is done, and its total so far
 pub record Listening : Type 0 where
   pub part_mask : ℕ
   pub kind_mask : ℕ
@@ -19,29 +19,29 @@ kinds_of (events.Burst context call burst count end acts answer failure) =
 kinds_of (events.Stage stage answers released) = 8 + (if nat_lt 0 (length answers) then 64 else 0)
 kinds_of (events.Arrive frame kept) = 16
 
--- whether a listener's masks meet an event of a part, 0 to 7: each has a bit together with the part's or the kinds'
+-- whether a listener hears an event of part 0 to 7: its masks have the part's bit and a bit of the event's kinds
 abbrev pub hears : Listening → ℕ → Event → Bool
 hears l part event =
     nat_lt part 8 && nat_lt 0 (bit_and l.part_mask (2 ^ part)) && nat_lt 0 (bit_and l.kind_mask (kinds_of event))
 
--- a count, one more where the test holds
+-- a count, plus one if the test holds
 abbrev pub count_if : Bool → ℕ → ℕ
 count_if true n = n + 1
 count_if false n = n
 
--- a listener after an event: its total is one more exactly where its masks meet the event
+-- a listener after an event: its total rises by one exactly if it hears the event
 abbrev pub heard : ℕ → Event → Listening → Listening
 heard part event l = record l { total = count_if (hears l part event) l.total }
 
--- how many of the published events, each with its part, the listener's masks meet
+-- how many of the published events, each with its part, the listener hears
 unfoldable pub heard_events : Listening → List (ℕ × Event) → ℕ
 heard_events l [] = 0
 heard_events l (e ∷ published) = count_if (hears l e.0 e.1) (heard_events l published)
 
--- the total: it goes up to the limit, or stays where it began if that was at the limit
+-- the total: it rises up to the limit, or keeps its first value if that has already reached the limit
 abbrev pub tap_total : Listening → List (ℕ × Event) → ℕ
 tap_total l published = if nat_le l.limit l.total then l.total else min l.limit (l.total + heard_events l published)
 
--- the listener is kept while its total is below its limit
+-- the total, and whether the listener stays attached: its total is below its limit
 abbrev pub tap_result : Listening → List (ℕ × Event) → ℕ × Bool
 tap_result l published = (tap_total l published, nat_lt (tap_total l published) l.limit)

@@ -1,4 +1,4 @@
--- How contracts see the data of code, and names that they give to pieces of the definitions. The promises of the program
--- rest on none of these.
+-- How contracts see the code's data, and names for pieces of the definitions. The program's promises do not depend on
+-- them.
 pub mod Streams
 pub mod Masks

@@ -1,4 +1,4 @@
-//! The outside: where bytes come from and go to, who listens to a run, and what may hold a worker back.
+//! The outside: where bytes come from and go to, who listens to a run, and what may hold up a worker.
 #![tactic(auto)]
 
 pub mod listeners;

@@ -9,7 +9,7 @@ use nook_data::calls::{Answer, CallAnswers};
 use nook_data::lists::Items;
 use nook_data::steps::{Event, FailCause};
 
-/// Each listener's total and whether it was kept.
+/// Each listener's total, and whether it is still attached.
 pub type TapTotals = Items<(u64, bool)>;
 
 /// Counts the events that its masks meet, up to a limit.
@@ -63,15 +63,15 @@ impl Listener for CountListener {
     }
 }
 
-/// Whether two masks have a bit together.
+/// Whether two masks have a common bit.
 fn meet(a: u8, b: u8) -> bool
     ensures { result ≡ masks_meet a b }
 {
     a & b > 0
 }
 
-/// The kinds of an event as bits: 0 Invoke, 1 Enter, 2 Burst, 3 Stage, 4 Arrive, 5 where it carries a failure,
-/// 6 where it carries an answer.
+/// The kinds of an event as bits: 0 Invoke, 1 Enter, 2 Burst, 3 Stage, 4 Arrive, 5 if it carries a failure, 6 if it
+/// carries an answer.
 pub fn event_kinds(event: &Event) -> u8
     ensures { result ≡ kinds_of event.now }
 {
@@ -106,10 +106,10 @@ fn answers_kind(answers: &CallAnswers) -> u8
     if answers.is_empty() { 0 } else { 64 }
 }
 
-/// A gate that holds nobody back.
+/// A gate that never holds up a worker.
 #[derive(Clone, Copy)]
 pub struct FreeGate;
 
 impl Gate for FreeGate {
-    fn pass(&self, _thread: u8, _place: u32) {}
+    fn pass(&self, _thread: u8, _index: u32) {}
 }

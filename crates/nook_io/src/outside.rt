@@ -1,8 +1,8 @@
-//! The traits of the outside: where bytes come from and go to, what holds a worker back, and who listens.
+//! The traits of the outside: where bytes come from and go to, what holds up a worker, and who listens.
 //!
-//! A source and a sink each have a count of their faults, which never falls: so what fails is told apart from
-//! what claims to fail. A fault raises the count by one, and a success leaves it. A count that stands at the end of
-//! its type, 2^64 - 1, stays there after a fault.
+//! A source and a sink each count their I/O errors. The count never falls, so contracts can distinguish what fails from
+//! what claims to fail. A failure raises the count by one, and a success leaves it. A count at the end of its type,
+//! 2^64 - 1, stays there.
 
 ghost use Rattle.std.specs.Prelude.{◌≡◌, ◌<◌, ◌≤◌, ℕ, List, Option, length};
 ghost use Rattle.std.specs.Io.{ReadsAtMost, WritesAtMost};
@@ -18,56 +18,56 @@ pub struct Failed;
 
 /// Where input comes from.
 pub trait Source {
-    // the bytes that are left, where the source tells them, and its count of faults
+    // the bytes that are left, if contracts know them, and the count of I/O errors
     ghost left: { Self → Option (List ℕ) };
 
     ghost count: { Self → ℕ };
 
-    /// Gives the next bytes, at most as many as the buffer has place for. None at all come only at the end of
-    /// input. `Failed` raises the count of faults by one and takes no bytes; all else leaves the count.
+    /// Reads the next bytes, at most as many as the buffer holds. It returns `Ok(0)` only at the end of input. `Failed`
+    /// raises the count of I/O errors by one and takes no bytes; anything else leaves the count.
     fn read(&mut self, buf: &mut [u8]) -> Result<usize, Failed>
         requires { 0 < length buf.old }
         ensures bound { ReadsAtMost result buf.new }
         ensures bytes { ReadConsumes (left self.old) (left self.new) result buf.new }
         ensures cause { HasCause (count self.old) (count self.new) result };
 
-    /// The number of faults so far.
+    /// The number of I/O errors so far.
     fn faults(&self) -> u64
         ensures { result ≡ count self.now };
 }
 
 /// Where output goes.
 pub trait Sink {
-    // the bytes that it holds, where the sink tells them, and its count of faults
+    // the bytes that it holds, if contracts know them, and the count of I/O errors
     ghost held: { Self → Option (List ℕ) };
 
     ghost count: { Self → ℕ };
 
-    /// Takes bytes from the front of the piece and says how many. `Ok(0)` and `Failed` raise the count of faults
-    /// by one and take nothing; all else leaves the count.
+    /// Takes bytes from the beginning of the piece and returns how many. `Ok(0)` and `Failed` raise the count of I/O
+    /// errors by one and take nothing; anything else leaves the count.
     fn write(&mut self, piece: &[u8]) -> Result<usize, Failed>
         requires { 0 < length piece.now }
         ensures bound { WritesAtMost result piece.now }
         ensures bytes { WriteAppends (held self.old) (held self.new) result piece.now }
         ensures cause { HasWriteCause (count self.old) (count self.new) result };
 
-    /// The number of faults so far.
+    /// The number of I/O errors so far.
     fn faults(&self) -> u64
         ensures { result ≡ count self.now };
 }
 
-/// What may hold a worker back.
+/// What may hold up a worker.
 pub trait Gate: Sync {
-    /// A thread's worker calls it once before each operation, with the operation's place in the script,
-    /// counted from 0, and outside every turn. It may wait.
-    fn pass(&self, thread: u8, place: u32);
+    /// A thread's worker calls this once before each operation, outside every turn. It passes the operation's index in
+    /// the script. The call may wait.
+    fn pass(&self, thread: u8, index: u32);
 }
 
 /// Who hears the events of a run.
 pub trait Listener: Drop {
     ghost listening: { Self → Listening };
 
-    /// A bit for each part that it hears, part 0 the lowest.
+    /// A bit for each part that it hears; part 0 has the lowest bit.
     fn part_mask(&self) -> u8
         ensures { result ≡ (listening self.now).part_mask };
 
@@ -83,8 +83,8 @@ pub trait Listener: Drop {
     fn total(&self) -> u64
         ensures { result ≡ (listening self.now).total };
 
-    /// Hears an event of a part: the total rises by one exactly where the part's bit and a bit of the event's
-    /// kinds are in the masks.
+    /// Hears an event of a part. The total rises by one exactly if the masks have the part's bit and a bit of the
+    /// event's kinds.
     fn hear(&mut self, part: u8, event: &Event)
         requires { (listening self.old).total < (listening self.old).limit }
         ensures { listening self.new ≡ heard part event.now (listening self.old) };

@@ -1,12 +1,12 @@
-//! A source over any reader and a sink over any writer. They tell the bytes that the reader or writer tells,
-//! and count its faults.
+//! A source over any reader and a sink over any writer. Their contents are those of the reader or writer, and they
+//! count its I/O errors.
 
 ghost use Rattle.std.specs.Prelude.{◌≡◌};
 
 use crate::outside::{Failed, Sink, Source};
 use std::io::{Read, Write};
 
-/// A source over a reader, as standard input.
+/// A source over a reader, such as standard input.
 #[derive(Drop)]
 pub struct InSource<R> {
     inner: R,
@@ -14,7 +14,7 @@ pub struct InSource<R> {
 }
 
 impl<R: Read> InSource<R> {
-    /// A source over this reader, with no faults so far.
+    /// A source over this reader, with no I/O errors so far.
     pub fn new(inner: R) -> InSource<R>
         ensures { result ≡ record { inner = inner; faults = 0 } }
     {
@@ -42,7 +42,7 @@ impl<R: Read> Source for InSource<R> {
     }
 }
 
-/// A sink over a writer, as standard output.
+/// A sink over a writer, such as standard output.
 #[derive(Drop)]
 pub struct OutSink<W> {
     inner: W,
@@ -50,7 +50,7 @@ pub struct OutSink<W> {
 }
 
 impl<W: Write> OutSink<W> {
-    /// A sink over this writer, with no faults so far.
+    /// A sink over this writer, with no I/O errors so far.
     pub fn new(inner: W) -> OutSink<W>
         ensures { result ≡ record { inner = inner; faults = 0 } }
     {
@@ -63,7 +63,7 @@ impl<W: Write> Sink for OutSink<W> {
 
     ghost count = { λ s. s.faults };
 
-    /// A write that takes nothing counts as a fault too.
+    /// A write that takes nothing counts as an I/O error too.
     fn write(&mut self, piece: &[u8]) -> Result<usize, Failed> {
         match self.inner.write(piece) {
             Ok(0) | Err(_) => {

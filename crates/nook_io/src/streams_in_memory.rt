@@ -1,4 +1,4 @@
-//! Sources and sinks in memory: two whose faults are listed, and two that never fail.
+//! Sources and sinks in memory: two that fail at listed calls, and two that never fail.
 
 ghost use Rattle.std.specs.Prelude.{◌≡◌, ◌+◌, ◌<◌, ◌≤◌, [], ◌++◌, Some, None, Ok, IsErr, IsOk, IfOk, OnErr, MatchBool, length, take, drop, min};
 ghost use Rattle.std.specs.Io.{ReadsAtMost, WritesAtMost};
@@ -13,7 +13,7 @@ use nook_data::memory::NoMemory;
 use std::alloc::Global;
 use std::marker::Model;
 
-/// A source over bytes in memory. Its calls are numbered from 1, and those that are listed fail.
+/// A source over bytes in memory. Its calls are numbered from 1, and the listed ones fail.
 #[derive(Drop)]
 pub struct ListSource {
     bytes: Words8,
@@ -36,8 +36,8 @@ impl Model for ListSource {
 }
 
 impl ListSource {
-    /// A source of these bytes that gives at most `per_read` (at least 1) in one read and fails at the calls
-    /// whose numbers are listed. It takes no memory.
+    /// A source of these bytes. One read returns at most `per_read` bytes (at least 1), and the calls with listed
+    /// numbers fail. This allocates no memory.
     pub fn new(bytes: Words8, failing: Words, per_read: u32) -> ListSource
         requires { 1 ≤ per_read }
         ensures { result ≡ record { left = bytes; per_read = per_read; failing = failing; calls = 0; faults = 0 } }
@@ -58,7 +58,7 @@ impl Source for ListSource {
 
     ghost count = { λ s. s.faults };
 
-    /// Fails exactly at a listed call; else it gives as many bytes as are left, as `per_read` allows and as fit.
+    /// Fails exactly at a listed call. Otherwise it returns as many bytes as are left, `per_read` allows and fit.
     fn read(&mut self, buf: &mut [u8]) -> Result<usize, Failed>
         requires { 0 < length buf.old }
         ensures bound { ReadsAtMost result buf.new }
@@ -84,8 +84,8 @@ impl Source for ListSource {
     }
 }
 
-/// A sink that keeps its bytes in memory. Its calls are numbered from 1; those that are listed fail, and those
-/// that find no room.
+/// A sink that keeps its bytes in memory. Its calls are numbered from 1. A call fails if it is listed or if the sink
+/// is full.
 #[derive(Drop)]
 pub struct ListSink {
     bytes: Vec<u8>,
@@ -108,8 +108,8 @@ impl Model for ListSink {
 }
 
 impl ListSink {
-    /// An empty sink with room for `room` bytes, which it takes here. A call that fails answers `Ok(0)` where
-    /// `nothing` is true, else `Failed`.
+    /// An empty sink with room for `room` bytes, which it allocates now. A failing call returns `Ok(0)` if `nothing` is
+    /// true, else `Failed`.
     pub fn new(
         alloc: Global,
         room: u32,
@@ -136,7 +136,7 @@ impl ListSink {
         self.bytes.as_slice()
     }
 
-    /// How a failing call answers.
+    /// What a failing call returns.
     fn refusal(&self) -> Result<usize, Failed>
         ensures { IsRefusal self.now.nothing result }
     {
@@ -149,7 +149,7 @@ impl Sink for ListSink {
 
     ghost count = { λ s. s.faults };
 
-    /// Fails exactly at a listed call and where no room is left; else it takes as much of the piece as fits.
+    /// Fails exactly at a listed call or if the sink is full. Otherwise it takes as much of the piece as fits.
     fn write(&mut self, piece: &[u8]) -> Result<usize, Failed>
         requires { 0 < length piece.now }
         ensures bound { WritesAtMost result piece.now }
@@ -195,7 +195,7 @@ impl Model for PlainSource {
 }
 
 impl PlainSource {
-    /// A source of these bytes. It takes no memory.
+    /// A source of these bytes. This allocates no memory.
     pub fn new(bytes: Words8) -> PlainSource
         ensures { result ≡ bytes }
     {
@@ -208,7 +208,7 @@ impl Source for PlainSource {
 
     ghost count = { λ _. 0 };
 
-    /// Gives as many bytes as are left and as fit.
+    /// Returns as many bytes as are left and fit.
     fn read(&mut self, buf: &mut [u8]) -> Result<usize, Failed>
         requires { 0 < length buf.old }
         ensures bound { ReadsAtMost result buf.new }
@@ -231,7 +231,7 @@ impl Source for PlainSource {
 pub struct PlainSink;
 
 impl PlainSink {
-    /// The sink.
+    /// A new sink.
     pub fn new() -> PlainSink {
         PlainSink
     }
@@ -268,7 +268,7 @@ fn is_listed(failing: &Words, call: u64) -> bool
         .any(|number| *number as u64 == call)
 }
 
-/// Copies at most `most` bytes from place `at` on to the front of the buffer, and says how many.
+/// Copies at most `most` bytes, from index `at` on, to the beginning of the buffer and returns how many.
 fn copy_from(bytes: &[u8], at: usize, most: usize, buf: &mut [u8]) -> usize
     requires { at ≤ length bytes.now }
     ensures count { result ≡ min (min (length (drop at bytes.now)) most) (length buf.old) }

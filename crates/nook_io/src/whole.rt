@@ -1,4 +1,4 @@
-//! Whole reads and writes: a source to its end, a text into a sink.
+//! Whole reads and writes: a source read to its end, a text written whole.
 
 ghost use Rattle.std.specs.Prelude.{◌≡◌, ◌+◌, ◌≤◌, ◌<◌, IsErrOf, IfOk, OnErr, OnOk, length};
 ghost use Rattle.std.specs.Io.KnownBytes.{Appends};
@@ -13,9 +13,9 @@ use std::alloc::{AllocError, Global};
 pub enum ReadStop {
     /// It holds more bytes than the limit.
     TooLong,
-    /// It failed.
+    /// A read failed.
     Fault,
-    /// There was no memory for its bytes.
+    /// An allocation for its bytes failed.
     NoMemory,
 }
 
@@ -39,8 +39,8 @@ impl From<AllocError> for ReadStop {
     }
 }
 
-/// All bytes that a source has left, at most `limit`. It reads to the end, or to the first byte over the limit, and takes
-/// no byte behind that one, however it ends. It ends at the source's first fault, and `Fault` says that there was one.
+/// Reads all bytes that a source has left, at most `limit`. It stops at the end, or at the first byte over the limit,
+/// and never takes a byte after that one. It also stops at the source's first I/O error and then returns `Fault`.
 #[tactic(auto, using(crate::proofs::KnownLemmas::consumes_none, crate::proofs::KnownLemmas::consumes_more, crate::proofs::KnownLemmas::reads_all, crate::proofs::KnownLemmas::holds_more, crate::proofs::KnownLemmas::takes_front, crate::proofs::KnownLemmas::takes_more, crate::proofs::KnownLemmas::takes_kept))]
 pub fn read_all<S: Source>(alloc: Global, source: &mut S, limit: u32) -> Result<Vec<u8>, ReadStop>
     ensures all { IfOk result (λ made. ReadsAll (S.left source.old) (S.left source.new) made.items) }
@@ -67,7 +67,7 @@ pub fn read_all<S: Source>(alloc: Global, source: &mut S, limit: u32) -> Result<
     Err(ReadStop::TooLong)
 }
 
-/// Writes a text whole. It ends at the sink's first fault, and then the sink has gained a front of the text.
+/// Writes a text whole. It stops at the sink's first I/O error; then the sink has gained a prefix of the text.
 #[tactic(auto, using(crate::proofs::KnownLemmas::appends_none, crate::proofs::KnownLemmas::appends_next, crate::proofs::KnownLemmas::appends_front, crate::proofs::KnownLemmas::appends_whole))]
 pub fn write_all<K: Sink>(sink: &mut K, text: &[u8]) -> Result<(), Failed>
     ensures ok { OnOk result (Appends (K.held sink.old) (K.held sink.new) text.now) }

@@ -1,4 +1,4 @@
--- The verdict on a report, and what it means that every line fits.
+-- The verdict on a report, and what follows if every line fits.
 use Rattle.std.proofs.Common.{◌≡◌, ℕ, ◌<◌, ◌≤◌, suc, List, [], ◌∷◌, Option, None, Ok, inl, inr, length, ap, subst, ◌∙◌}
 use Rattle.audit_input.specs.Handed.{Hands, HandsNothing}
 use Rattle.run_laws.specs.Audit.{Section, opening_section, section_after}
@@ -16,13 +16,14 @@ use Rattle.nook_data.specs.declared.scenario.Scenario.{Scenario}
 use Rattle.nook_data.specs.declared.scenario.ThreadSpec.{ThreadSpec}
 use Rattle.input_defs.specs.declared.input.InputFault.TheVariants as fault
 use Rattle.input_defs.specs.declared.input.Refusal.{Refusal}
-use Rattle.run_ends.specs.Journals.{AreRuns}
+use Rattle.run_results.specs.Journals.{AreRuns}
 use Rattle.nooks.proofs.Safety.{all_safe}
 use Rattle.nooks.proofs.Written.{writes_more}
 use Rattle.nooks.specs.Answers.{AnswersInput, IsSound, IsVerdict, Says, verdict_status}
 use Rattle.nooks.specs.Endings.{Writes}
 use Rattle.command_forms.specs.Forms.{limit_of}
-use Rattle.nooks.specs.Streams.{Change, Whole}
+use Rattle.nook_io.specs.Changes.{Change}
+use Rattle.nooks.specs.Streams.{Whole}
 use Rattle.nooks.specs.Texts.{at_root, bad_header_text, verdict_text}
 use Rattle.nooks.specs.declared.program.Status.{Status}
 use Rattle.nooks.specs.declared.program.Status.TheVariants as ended
@@ -37,14 +38,14 @@ fitting_run s [] h = tt
 fitting_run s (e ∷ events) h = (h.0, h.1, fitting_run (section_after s _) events h.3)
 
 -- journals that fit are runs of their parts
-pub fitting_runs : (threads : List ThreadSpec) (place : ℕ) (specs : List PartSpec) (journals : List (List Event))
-    → AllFit threads place specs journals → AreRuns specs journals
+pub fitting_runs : (threads : List ThreadSpec) (index : ℕ) (specs : List PartSpec) (journals : List (List Event))
+    → AllFit threads index specs journals → AreRuns specs journals
 unfolding AllFit
-fitting_runs threads place [] [] h = tt
-fitting_runs threads place [] (journal ∷ journals) h = absurd h
-fitting_runs threads place (spec ∷ specs) [] h = absurd h
-fitting_runs threads place (spec ∷ specs) (journal ∷ journals) h =
-    (fitting_run (opening_section threads place spec) journal h.0, fitting_runs threads (suc place) specs journals h.1)
+fitting_runs threads index [] [] h = tt
+fitting_runs threads index [] (journal ∷ journals) h = absurd h
+fitting_runs threads index (spec ∷ specs) [] h = absurd h
+fitting_runs threads index (spec ∷ specs) (journal ∷ journals) h =
+    (fitting_run (opening_section threads index spec) journal h.0, fitting_runs threads (suc index) specs journals h.1)
 
 -- a report in which an audit finds nothing is sound
 pub sound_report : (scenario : Scenario) (report : List ℕ) (found : Option ℕ) → IsValidScenario scenario → Finds scenario report found → found ≡ None
@@ -61,10 +62,10 @@ sound_report scenario report found valid finds none =
 
 -- ---- the verdict
 
-pub verdict_told : (scenario : Scenario) (report : List ℕ) (found : Option ℕ) (sink : Change) (status : Status) → IsValidScenario scenario
+pub verdict_reported : (scenario : Scenario) (report : List ℕ) (found : Option ℕ) (sink : Change) (status : Status) → IsValidScenario scenario
     → Finds scenario report found → Writes (Says (verdict_text found) (verdict_status found)) sink status
     → Writes (IsVerdict scenario report) sink status
-verdict_told scenario report found sink status valid finds ends =
+verdict_reported scenario report found sink status valid finds ends =
     writes_more (Says (verdict_text found) (verdict_status found)) (IsVerdict scenario report) sink status
     (λ text s said. record {
       found = found;
@@ -74,7 +75,7 @@ verdict_told scenario report found sink status valid finds ends =
       sound = sound_report scenario report found valid finds;
     }) ends
 
--- the same text by another name
+-- an equal text
 pub said_same : (a b : List ℕ) (status end : Status) (sink : Change) → a ≡ b → Writes (Says a status) sink end → Writes (Says b status) sink end
 said_same a b status end sink e ends = subst (λ t. Writes (Says t status) sink end) e ends
 

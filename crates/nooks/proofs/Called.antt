@@ -1,4 +1,4 @@
--- How a call for some words ended, and what follows from it: each clause of the call.
+-- How a call with some arguments ended, and what follows from it: each clause of the call.
 use Rattle.std.proofs.Common.{◌≡◌, ℕ, ◌+◌, ◌≤◌, true, List, ◌⊎◌, inl, inr, Option, Some, None, Err, IsErrOf, refl, sym, ap, ◌∙◌, subst, true≢false, arith}
 use Rattle.std.proofs.lemmas.Result.{IfErr-at_err}
 use Rattle.std.specs.Prelude.{[]}
@@ -17,7 +17,8 @@ use Rattle.nooks.proofs.Written.{ends_answered, ends_complete, ends_cut, ends_re
 use Rattle.nooks.specs.Answers.{AnswersInput, IsGuardOf, IsReportOf}
 use Rattle.nooks.specs.Endings.{AnswersWords, AskGuard, AskReport, Ends, EndsWords, HasReport, IsAnswerStatus, IsAnswerTo, IsBegun, IsCut}
 use Rattle.nooks.specs.Endings.{IsKeptReport, IsSafeReport, IsWritten, ReadStopWrites, TakesFor}
-use Rattle.nooks.specs.Streams.{Change, GainsNothing, HasFailed, Input, Reads, TooLong, Whole}
+use Rattle.nook_io.specs.Changes.{Change}
+use Rattle.nooks.specs.Streams.{GainsNothing, HasFailed, Input, Reads, TooLong, Whole}
 use Rattle.nooks.specs.Texts.{at_root}
 use Rattle.nooks.specs.declared.program.Status.{Status}
 use Rattle.nooks.specs.declared.program.Status.TheVariants as ended
@@ -35,15 +36,15 @@ stop_ends asked hearing source stopped.Fault limit sink status reading limited l
 stop_ends asked hearing source stopped.NoMemory limit sink status reading limited long failed ends =
     subst (λ s. Ends (Some asked) hearing source sink s) (sym ends.0) (inl ends.1)
 
--- a fault that stopped the reading is told
-pub fault_told : {T : Type 0} (stop : ReadStop) (sink : Change) (status : Status) → IsErrOf {T = T} (Err stop) stopped.Fault
+-- an I/O error that stopped the reading is reported
+pub fault_reported : {T : Type 0} (stop : ReadStop) (sink : Change) (status : Status) → IsErrOf {T = T} (Err stop) stopped.Fault
     → ReadStopWrites stop sink status → status ≡ ended.ReadFault
-fault_told stop sink status e ends =
+fault_reported stop sink status e ends =
     let at : ReadStopWrites stopped.Fault sink status =
     subst (λ s. ReadStopWrites s sink status) (IfErr-at_err (λ s. stop ≡ s) e refl) ends in
     at.0
 
--- ---- forms that wait
+-- ---- subcommands that wait
 
 pub waiting_reads : (asked : WaitingForm) → is_reading (form_for asked) ≡ true
 waiting_reads waiting.RunThreads = refl
@@ -53,28 +54,28 @@ pub waiting_limit : (asked : WaitingForm) → 1048576 ≡ limit_of (form_for ask
 waiting_limit waiting.RunThreads = refl
 waiting_limit waiting.Mirror = refl
 
--- words of a form that waits ask for an input
+-- the arguments of a subcommand that waits ask for an input
 pub waiting_asks : {P : Type 0} (words : List (List ℕ)) (asked : WaitingForm) → IsForm words (form_for asked) → AskUnread words → P
 waiting_asks words asked is unread = absurd (true≢false (sym (waiting_reads asked) ∙ unread (form_for asked) is))
 
 -- ---- how the call ended
 
--- a source that is as it was
-pub takes_nothing : (told : Option (List ℕ)) (n : ℕ) → TakesAtMost told told n
+-- a source that did not change
+pub takes_nothing : (printed : Option (List ℕ)) (n : ℕ) → TakesAtMost printed printed n
 takes_nothing None n = record { front = []; taken = tt; few = omega arith }
 takes_nothing (Some bytes) n = record { front = []; taken = refl; few = omega arith }
 
 pub form_ended : (words : List (List ℕ)) (asked : Form) (hearing : List Listening) (source sink : Change) (status : Status) → IsForm words asked
-    → Ends (Some asked) hearing source sink status → TakesAtMost source.before.told source.after.told (limit_of asked + 1)
-    → source.before.faults ≤ source.after.faults → sink.before.faults ≤ sink.after.faults
-    → ((status ≡ ended.ReadFault → ⊥) → source.after.faults ≡ source.before.faults)
-    → ((status ≡ ended.WriteFault → ⊥) → sink.after.faults ≡ sink.before.faults) → EndsWords words hearing source sink status
+    → Ends (Some asked) hearing source sink status → TakesAtMost source.before.contents source.after.contents (limit_of asked + 1)
+    → source.before.errors ≤ source.after.errors → sink.before.errors ≤ sink.after.errors
+    → ((status ≡ ended.ReadFault → ⊥) → source.after.errors ≡ source.before.errors)
+    → ((status ≡ ended.WriteFault → ⊥) → sink.after.errors ≡ sink.before.errors) → EndsWords words hearing source sink status
 form_ended words asked hearing source sink status is ends taken read wrote read_kept wrote_kept = record {
   asked = Some asked;
   asks = is;
   ends = ends;
   taken = λ other is_other.
-      subst (λ f. TakesAtMost source.before.told source.after.told (limit_of f + 1)) (one_form words asked other is is_other) taken;
+      subst (λ f. TakesAtMost source.before.contents source.after.contents (limit_of f + 1)) (one_form words asked other is is_other) taken;
   source_later = read;
   sink_later = wrote;
   source_kept = read_kept;
@@ -82,9 +83,9 @@ form_ended words asked hearing source sink status is ends taken read wrote read_
 }
 
 pub unformed_ended : (words : List (List ℕ)) (hearing : List Listening) (source sink : Change) (status : Status) → IsNoForm words
-    → Ends None hearing source sink status → source.before.faults ≤ source.after.faults → sink.before.faults ≤ sink.after.faults
-    → ((status ≡ ended.ReadFault → ⊥) → source.after.faults ≡ source.before.faults)
-    → ((status ≡ ended.WriteFault → ⊥) → sink.after.faults ≡ sink.before.faults) → EndsWords words hearing source sink status
+    → Ends None hearing source sink status → source.before.errors ≤ source.after.errors → sink.before.errors ≤ sink.after.errors
+    → ((status ≡ ended.ReadFault → ⊥) → source.after.errors ≡ source.before.errors)
+    → ((status ≡ ended.WriteFault → ⊥) → sink.after.errors ≡ sink.before.errors) → EndsWords words hearing source sink status
 unformed_ended words hearing source sink status none ends read wrote read_kept wrote_kept = record {
   asked = None;
   asks = none;

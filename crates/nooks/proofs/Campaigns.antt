@@ -1,4 +1,4 @@
--- The runs of a campaign are runs of which all that is promised of runs holds.
+-- The runs of a campaign keep all promises of runs.
 use Rattle.std.proofs.Common.{◌≡◌, ℕ, Bool, true, false, List, [], ◌∷◌, Ok, inr, sym, subst, true≢false}
 use Rattle.std.specs.List.{AllByRecursion, AllZip}
 use Rattle.std.proofs.lemmas.List.Elements.{recursion_from_All}
@@ -28,20 +28,21 @@ use Rattle.nooks.proofs.Safety.{all_safe}
 use Rattle.nooks.proofs.Written.{writes_more}
 use Rattle.nooks.specs.Answers.{AnswersInput, AreKept, AreMembers, IsMember, IsPromised, IsTableOf, Says}
 use Rattle.nooks.specs.Endings.{Writes}
-use Rattle.nooks.specs.Streams.{Change, Whole}
+use Rattle.nook_io.specs.Changes.{Change}
+use Rattle.nooks.specs.Streams.{Whole}
 use Rattle.nooks.specs.declared.program.Status.{Status}
 use Rattle.nooks.specs.declared.program.Status.TheVariants as ended
 use Rattle.command_forms.specs.declared.words.Form.TheVariants as form
 
 -- ---- runs
 
--- with a guard or without one, a run of a campaign is the scheduled run of what was run
+-- with or without a guard, a run of a campaign is the scheduled run of the scenario that ran
 scheduled_under : (guard : Bool) (scenario : Scenario) (ran : Ran) → IsRunUnder guard scenario ran
     → IsScheduledRun ran.scenario ran.simulation
 scheduled_under false scenario ran is = subst (λ (s : Scenario). IsScheduledRun s ran.simulation) (sym is.same) is.scheduled
 scheduled_under true scenario ran is = is.scheduled
 
--- with a guard no part of it breaks its contract
+-- with a guard no part of the run breaks its contract
 kept_under : (guard : Bool) (scenario : Scenario) (ran : Ran) → IsRunUnder guard scenario ran
     → AreSafe ran.scenario.parts (journals_of ran.simulation) → guard ≡ true
     → AreKept ran.scenario.parts (journals_of ran.simulation)
@@ -82,7 +83,7 @@ members_of_rows plan base (faults ∷ lists) (row ∷ rows) can are =
 
 -- ---- tables
 
--- a campaign's table, whose runs are promised
+-- a campaign's table, whose runs keep all promises of runs
 pub record IsPromisedTable (plan : Plan) (base : Ran) (rows : List Row) : Type 0 where
   pub table : IsPlanTable plan base rows
   pub promised : IsPromised plan.guard plan.base base
@@ -113,7 +114,7 @@ table_of bytes plan base rows text reading is same = record {
   text_is = same;
 }
 
--- it answers them
+-- the bytes of a campaign are answered with this table
 pub campaign_answered : (bytes : List ℕ) (plan : Plan) (hearing : List Listening) (sink : Change) (status : Status)
     → plan_from bytes ≡ Ok plan → IsValidPlan plan
     → ((base : Ran) (rows : List Row) → IsPlanTable plan base rows → Writes (Says (plan_table_text plan base rows) ended.Done) sink status)

@@ -9,7 +9,8 @@ use Rattle.nook_data.specs.declared.scenario.Scenario.{Scenario}
 use Rattle.nook_io.specs.Listening.{Listening}
 use Rattle.nooks.specs.Answers.{AnswersInput, IsExploration, IsExploredStatus}
 use Rattle.nooks.specs.Endings.{IsBegun, IsWritten, Writes}
-use Rattle.nooks.specs.Streams.{Change, Gains, GainsFront, Whole}
+use Rattle.nook_io.specs.Changes.{Change}
+use Rattle.nooks.specs.Streams.{Gains, GainsFront, Whole}
 use Rattle.nooks.specs.declared.program.Status.{Status}
 use Rattle.nooks.specs.declared.program.Status.TheVariants as ended
 use Rattle.command_forms.specs.declared.words.Form.TheVariants as form
@@ -48,7 +49,7 @@ exploration scenario text number status explored is = record {
 
 -- ---- what is written
 
--- what was written whole ends with a status of explorations
+-- an exploration that was written in full ends with its status
 explored_writes : (Answer : List ℕ → Status → Type 0) (sink : Change) (number : ℕ) (status : Status) → IsExploredStatus number status
     → IsWritten Answer sink status → Writes Answer sink status
 explored_writes Answer sink number ended.Done is written = written
@@ -62,14 +63,14 @@ explored_writes Answer sink number ended.ContractBroken is written = written
 explored_writes Answer sink number ended.AuditNo is written = absurd is
 explored_writes Answer sink number ended.Cut is written = written
 
--- an exploration was written whole
+-- an exploration was written in full
 pub rows_written : (scenario : Scenario) (text : List ℕ) (number : ℕ) (sink : Change) (status : Status) → IsExplored scenario text number
     → IsExploredStatus number status → Gains sink text → Writes (IsExploration scenario) sink status
 rows_written scenario text number sink status explored is gained =
     explored_writes (IsExploration scenario) sink number status is
     (record { text = text; answer = exploration scenario text number status explored is; gained = gained })
 
--- a front of it was written
+-- a prefix of an exploration was written
 pub rows_begun : (scenario : Scenario) (text : List ℕ) (is_cut : Bool) (rows : List MemberRow) (sink : Change)
     → IsExplored scenario text (explored_status is_cut rows) → GainsFront sink text → IsBegun (IsExploration scenario) sink
 rows_begun scenario text is_cut rows sink explored front =
@@ -80,7 +81,7 @@ rows_begun scenario text is_cut rows sink explored front =
       gained = front;
     }
 
--- it answers the bytes that are the scenario
+-- the bytes of a scenario are answered with its exploration
 pub exploration_answers : (bytes : List ℕ) (scenario : Scenario) (hearing : List Listening) (sink : Change) (status : Status)
     → scenario_from bytes ≡ Ok scenario → Writes (IsExploration scenario) sink status
     → Writes (AnswersInput form.Explore (Whole bytes) hearing) sink status

@@ -1,4 +1,4 @@
--- What a guard makes of a scenario, and what the writing of its report leaves.
+-- What a guard makes of a scenario, and what is written of its report.
 use Rattle.std.proofs.Common.{◌≡◌, ℕ, suc, ◌+◌, ◌-◌, ◌<◌, ◌≤◌, nat_le, nat_lt, Bool, true, false, if◌then◌else◌, is_some, ◌||◌, List, [], ◌∷◌, ◌++◌, All, length, map, slice_get, ◌⊎◌, inl, inr, Option, Some, None, Result, Ok, Err, IfOk, refl, sym, ap, ◌∙◌, subst, append-nil, arith, true≢false}
 use Rattle.std.proofs.lemmas.Bool.{le-leb, leb-true, lt-leb, ltb-false, ltb-true}
 use Rattle.std.proofs.lemmas.List.Elements.{All-from_recursion}
@@ -20,28 +20,29 @@ use Rattle.nook_data.specs.declared.steps.Event.{Event}
 use Rattle.nook_io.specs.Listening.{Listening}
 use Rattle.promise_defs.specs.Contract.{first_break}
 use Rattle.report_defs.specs.ReportText.{has_break, has_given_up, report_text, status_of}
-use Rattle.report_text.specs.declared.whole_report.Report.{Report}
+use Rattle.run_results.specs.declared.report.Report.{Report}
 use Rattle.run_defs.specs.Simulation.{RunningPart, Simulation, journal_of, journals_of}
-use Rattle.run_ends.specs.Journals.{events_in}
+use Rattle.run_results.specs.Journals.{events_in}
 use Rattle.scenario_read.specs.Gives.{Fails}
 use Rattle.scenario_read.specs.declared.stop.ScenarioFault.{ScenarioFault}
 use Rattle.scenario_read.specs.declared.stop.ScenarioFault.TheVariants as stops
 use Rattle.scenario_write.specs.ScenarioText.{scenario_line}
 use Rattle.sim_run.proofs.Ending.{scheduled_once}
-use Rattle.nooks.proofs.Reports.{run_status, told_status, told_writes}
+use Rattle.nooks.proofs.Reports.{run_status, reported_status, reported_writes}
 use Rattle.nooks.proofs.Written.{writes_more}
 use Rattle.nooks.specs.Answers.{AnswersInput, AreKept, IsGuardReport, IsGuardedLine, IsKept, IsReportStatus, IsScheduled, IsWhole, Left, Says}
 use Rattle.nooks.specs.Endings.{IsBegun, Writes}
 use Rattle.nooks.specs.Guardable.{first_without_room, guardable, guardable_from, has_room, no_room, with_room}
-use Rattle.nooks.specs.Making.{IsGuardMade, TellsStatus, left_of}
-use Rattle.nooks.specs.Streams.{Change, Gains, GainsFront, Whole}
+use Rattle.nooks.specs.Making.{IsGuardMade, ReportsStatus, left_of}
+use Rattle.nook_io.specs.Changes.{Change}
+use Rattle.nooks.specs.Streams.{Gains, GainsFront, Whole}
 use Rattle.nooks.specs.declared.program.Status.{Status}
 use Rattle.nooks.specs.declared.program.Status.TheVariants as ended
 use Rattle.command_forms.specs.declared.words.Form.TheVariants as form
 
 -- ---- room
 
--- what is free of a list of faults has room for a trap more than the limit
+-- a list of faults has room left for one more trap than the limit
 pub room_left : (faults limit : ℕ) → nat_lt limit (64 - faults) ≡ nat_le (faults + (limit + 1)) 64
 room_left faults limit = by_test (nat_lt limit (64 - faults)) refl
   where
@@ -53,16 +54,16 @@ room_left faults limit = by_test (nat_lt limit (64 - faults)) refl
         let high : 64 - faults ≤ limit = ltb-false limit (64 - faults) e in
         sym (lt-leb (faults + (limit + 1)) 64 (omega (arith, high)))
 
-rooms : (place : ℕ) (specs : List PartSpec) → first_without_room place specs ≡ None → AllByRecursion HasRoom specs
-rooms place [] none = tt
-rooms place (spec ∷ specs) none = by_room (has_room spec) refl none (rooms (suc place) specs)
+rooms : (index : ℕ) (specs : List PartSpec) → first_without_room index specs ≡ None → AllByRecursion HasRoom specs
+rooms index [] none = tt
+rooms index (spec ∷ specs) none = by_room (has_room spec) refl none (rooms (suc index) specs)
   where
-    by_room : (room : Bool) → has_room spec ≡ room → (if room then first_without_room (suc place) specs else Some place) ≡ None
-        → (first_without_room (suc place) specs ≡ None → AllByRecursion HasRoom specs) → HasRoom spec × AllByRecursion HasRoom specs
+    by_room : (room : Bool) → has_room spec ≡ room → (if room then first_without_room (suc index) specs else Some index) ≡ None
+        → (first_without_room (suc index) specs ≡ None → AllByRecursion HasRoom specs) → HasRoom spec × AllByRecursion HasRoom specs
     by_room true is rest more = (leb-true (length spec.faults + (spec.limit + 1)) 64 is, more rest)
     by_room false is rest more = none_is_some (sym rest)
 
--- where no part is without room, each has room
+-- if no part lacks room, each has room
 pub all_room : (scenario : Scenario) → first_without_room 0 scenario.parts ≡ None → All HasRoom scenario.parts
 all_room scenario none = All-from_recursion HasRoom scenario.parts (rooms 0 scenario.parts none)
 
@@ -72,11 +73,11 @@ pub read_with_room : (bytes : List ℕ) (scenario : Scenario) → scenario_from 
     → guardable_from bytes ≡ Ok scenario
 read_with_room bytes scenario reading none = ap guardable reading ∙ ap (with_room scenario) none
 
-pub read_without_room : (bytes : List ℕ) (scenario : Scenario) (place : ℕ) → scenario_from bytes ≡ Ok scenario
-    → first_without_room 0 scenario.parts ≡ Some place → guardable_from bytes ≡ Err (no_room place)
-read_without_room bytes scenario place reading there = ap guardable reading ∙ ap (with_room scenario) there
+pub read_without_room : (bytes : List ℕ) (scenario : Scenario) (index : ℕ) → scenario_from bytes ≡ Ok scenario
+    → first_without_room 0 scenario.parts ≡ Some index → guardable_from bytes ≡ Err (no_room index)
+read_without_room bytes scenario index reading there = ap guardable reading ∙ ap (with_room scenario) there
 
--- the fault of the reading comes first
+-- an input error found in reading comes first
 pub fault_first : (bytes : List ℕ) (stop : ScenarioFault) → Fails stop (scenario_from bytes) → Fails stop (guardable_from bytes)
 fault_first bytes (stops.Bad refusal) fails = ap guardable fails
 fault_first bytes stops.NoMemory fails = tt
@@ -89,9 +90,9 @@ parts_of_read : (read scenario : Scenario) (first : Option ℕ) → first_withou
 parts_of_read read scenario None none same =
     let e : read ≡ scenario = ok_once (Ok read) read scenario refl same in
     (e, subst (λ (s : Scenario). All HasRoom s.parts) e (all_room read none))
-parts_of_read read scenario (Some place) there same = absurd (cc)
+parts_of_read read scenario (Some index) there same = absurd (cc)
 
--- what is guardable was read, and has room
+-- a guardable scenario was read, and has room
 pub guardable_parts : (r : Result Scenario Refusal) (scenario : Scenario) → guardable r ≡ Ok scenario
     → (r ≡ Ok scenario) × All HasRoom scenario.parts
 guardable_parts (Err refusal) scenario e = absurd (cc)
@@ -108,14 +109,14 @@ part_kept spec journal safe none = record {
 }
 
 each_kept : (seats : List RunningPart)
-    → ((place : ℕ) (seat : RunningPart) → slice_get seats place ≡ Some seat
+    → ((index : ℕ) (seat : RunningPart) → slice_get seats index ≡ Some seat
     → first_break (spec_of seat).class (spec_of seat).blocks seat.run.journal ≡ None)
     → AreSafe (map spec_of seats) (map journal_of seats) → AreKept (map spec_of seats) (map journal_of seats)
 unfolding AreSafe
 each_kept [] none safe = tt
 each_kept (seat ∷ seats) none safe = (
   part_kept (spec_of seat) (journal_of seat) safe.0 (none 0 seat refl),
-  each_kept seats (λ place s at. none (suc place) s at) safe.1,
+  each_kept seats (λ index s at. none (suc index) s at) safe.1,
 )
 
 -- each part of a guarded scenario's run is kept
@@ -172,7 +173,7 @@ pub guard_reported : (scenario : Scenario) (hearing : List Listening) (made : Gu
     → text ≡ guard_lines made.stops
     ++ report_text made.scenario left.journals left.answers left.taps (status_of made.scenario.parts left.journals)
     → IsGuardReport scenario hearing text status
-guard_reported scenario hearing made left text status is run whole told same =
+guard_reported scenario hearing made left text status is run whole printed same =
     let kept : AreKept made.scenario.parts left.journals = guarded_kept scenario hearing made left is run whole in record {
       guarded = made.scenario;
       is_guarded = record { simulation = is.simulation; run = is.guarded; same = is.same };
@@ -183,8 +184,8 @@ guard_reported scenario hearing made left text status is run whole told same =
       run = run;
       whole = whole;
       kept = kept;
-      status_is = told;
-      never_broken = kept_status made.scenario.parts left.journals status kept told;
+      status_is = printed;
+      never_broken = kept_status made.scenario.parts left.journals status kept printed;
       text_is = same;
     }
 
@@ -196,28 +197,28 @@ module _ (scenario : Scenario) (hearing : List Listening) (made : Guarded) (repo
 
   reported : (status : Status) → IsReportStatus (status_of made.scenario.parts (map events_in report.run.journals)) status
       → IsGuardReport scenario hearing guard_text status
-  reported status told =
-      guard_reported scenario hearing made (left_of report.run) guard_text status is.guarded is.run.run is.run.whole told
+  reported status printed =
+      guard_reported scenario hearing made (left_of report.run) guard_text status is.guarded is.run.run is.run.whole printed
       (ap (λ s. guard_lines made.stops ++ report_text made.scenario (map events_in report.run.journals) report.run.answers report.run.taps s)
       is.run.is_report.status)
 
-  -- a report that was written ends as its status tells
-  pub guard_written : (sink : Change) (status : Status) → Gains sink guard_text → TellsStatus report.status status
+  -- a report that was written in full ends with its status
+  pub guard_written : (sink : Change) (status : Status) → Gains sink guard_text → ReportsStatus report.status status
       → Writes (IsGuardReport scenario hearing) sink status
-  guard_written sink status gained tells =
-      let told = told_status made.scenario.parts (map events_in report.run.journals) report.status status is.run.is_report.status tells in
-      told_writes (IsGuardReport scenario hearing) sink report.status status tells
-      (record { text = guard_text; answer = reported status told; gained = gained })
+  guard_written sink status gained reports =
+      let printed = reported_status made.scenario.parts (map events_in report.run.journals) report.status status is.run.is_report.status reports in
+      reported_writes (IsGuardReport scenario hearing) sink report.status status reports
+      (record { text = guard_text; answer = reported status printed; gained = gained })
 
-  -- a report of which a front was written
+  -- a prefix of a report was written
   pub guard_begun : (sink : Change) → GainsFront sink guard_text → IsBegun (IsGuardReport scenario hearing) sink
   guard_begun sink front =
-      let told = run_status made.scenario.parts (map events_in report.run.journals) in
-      record { text = guard_text; status = told.0; answer = reported told.0 told.1; gained = front }
+      let printed = run_status made.scenario.parts (map events_in report.run.journals) in
+      record { text = guard_text; status = printed.0; answer = reported printed.0 printed.1; gained = front }
 
 -- ---- the guarded scenario
 
--- its line, where memory allows it
+-- the line of the guarded scenario, unless memory runs out
 pub line_of : (scenario : Scenario) (made : Guarded) (r : Result (List ℕ) NoMemory) → IsGuarded scenario made
     → IfOk r (λ text. text ≡ scenario_line made.scenario) → IfOk r (IsGuardedLine scenario)
 line_of scenario made (Err e) is same = same

@@ -1,4 +1,4 @@
--- The writing of a mirror's report ends as the mirror's status tells.
+-- Writing a mirror's report ends with the mirror's status.
 use Rattle.std.proofs.Common.{◌≡◌, ℕ, ◌==◌, Bool, true, false, if◌then◌else◌, List, [], ◌∷◌, inl, inr, map, Ok, refl, ap, ◌∙◌, subst}
 use Rattle.std.specs.List.{list_any}
 use Rattle.mirrored_run.specs.Mirrors.{IsMirrorRun, is_lost, is_mirror, mirror_status}
@@ -12,20 +12,21 @@ use Rattle.nook_data.specs.declared.scenario.Scenario.{Scenario}
 use Rattle.nook_io.specs.Listening.{tap_result}
 use Rattle.headline_laws.specs.Headline.{AreSafe}
 use Rattle.report_text.specs.Mirrored.{mirror_report_text}
-use Rattle.report_text.specs.Whole.{IsReport}
-use Rattle.report_text.specs.declared.report.Run.{Run}
-use Rattle.report_text.specs.declared.whole_report.Report.{Report}
+use Rattle.run_results.specs.Reports.{IsReport}
+use Rattle.run_results.specs.declared.run.Run.{Run}
+use Rattle.run_results.specs.declared.report.Report.{Report}
 use Rattle.request_taps.proofs.Totals.{all_totals}
-use Rattle.request_taps.specs.Bus.{result_of, settled, told_all}
-use Rattle.run_ends.specs.Journals.{AreRuns, events_in}
+use Rattle.request_taps.specs.Bus.{result_of, settled, after_hearing_all}
+use Rattle.run_results.specs.Journals.{AreRuns, events_in}
 use Rattle.threaded_run.specs.Threaded.{in_parts}
-use Rattle.nooks.proofs.Reports.{told_writes}
+use Rattle.nooks.proofs.Reports.{reported_writes}
 use Rattle.nooks.proofs.Safety.{all_safe}
 use Rattle.nooks.proofs.Written.{writes_more}
 use Rattle.nooks.specs.Answers.{AnswersInput, IsMirrored, IsReportStatus, Says}
 use Rattle.nooks.specs.Endings.{IsBegun, Writes}
-use Rattle.nooks.specs.Making.{IsMirrorMade, TellsStatus}
-use Rattle.nooks.specs.Streams.{Change, Gains, GainsFront, Whole}
+use Rattle.nooks.specs.Making.{IsMirrorMade, ReportsStatus}
+use Rattle.nook_io.specs.Changes.{Change}
+use Rattle.nooks.specs.Streams.{Gains, GainsFront, Whole}
 use Rattle.nooks.specs.Texts.{not_mirror_text}
 use Rattle.nooks.specs.declared.program.Status.{Status}
 use Rattle.nooks.specs.declared.program.Status.TheVariants as ended
@@ -42,20 +43,20 @@ known_status true lost = (ended.ContractBroken, refl)
 known_status false true = (ended.GivenUp, refl)
 known_status false false = (ended.Done, refl)
 
--- a status that is told by its number
-told_by : (broken lost : Bool) (status : Status) → TellsStatus (status_by broken lost) status → IsReportStatus (status_by broken lost) status
-told_by broken lost ended.Done tells = tells
-told_by broken lost ended.GivenUp tells = tells
-told_by broken lost ended.Usage tells = absurd tells
-told_by broken lost ended.BadInput tells = absurd tells
-told_by broken lost ended.ReadFault tells = absurd tells
-told_by broken lost ended.WriteFault tells = absurd tells
-told_by broken lost ended.NoMemory tells = absurd tells
-told_by broken lost ended.AuditNo tells = absurd tells
-told_by broken lost ended.Cut tells = absurd tells
-told_by true lost ended.ContractBroken tells = refl
-told_by false true ended.ContractBroken tells = absurd (tells.1 refl)
-told_by false false ended.ContractBroken tells = absurd (tells.0 refl)
+-- a status by its number
+reported_by : (broken lost : Bool) (status : Status) → ReportsStatus (status_by broken lost) status → IsReportStatus (status_by broken lost) status
+reported_by broken lost ended.Done reports = reports
+reported_by broken lost ended.GivenUp reports = reports
+reported_by broken lost ended.Usage reports = absurd reports
+reported_by broken lost ended.BadInput reports = absurd reports
+reported_by broken lost ended.ReadFault reports = absurd reports
+reported_by broken lost ended.WriteFault reports = absurd reports
+reported_by broken lost ended.NoMemory reports = absurd reports
+reported_by broken lost ended.AuditNo reports = absurd reports
+reported_by broken lost ended.Cut reports = absurd reports
+reported_by true lost ended.ContractBroken reports = refl
+reported_by false true ended.ContractBroken reports = absurd (reports.1 refl)
+reported_by false false ended.ContractBroken reports = absurd (reports.0 refl)
 
 -- of the status that the two parts would have apart, only a broken contract stays
 apart_by : (broken gone lost : Bool)
@@ -80,23 +81,23 @@ module _ (scenario : Scenario) (hearing : List Listening) (report : Report) (ans
     taps = report.run.taps;
     run = made.run;
     safe = made.safe;
-    told = made.told;
+    printed = made.printed;
     status_is = is;
     text_is = ap (λ js. mirror_report_text scenario js answers report.run.taps number) made.journals
         ∙ ap (λ s. mirror_report_text scenario (made.left ∷ made.right ∷ []) answers report.run.taps s) made.status;
   }
 
-  -- a report that was written ends as its status tells
-  pub mirror_written : (sink : Change) (status : Status) → Gains sink text_made → TellsStatus number status
+  -- a report that was written in full ends with its status
+  pub mirror_written : (sink : Change) (status : Status) → Gains sink text_made → ReportsStatus number status
       → Writes (IsMirrored scenario hearing) sink status
-  mirror_written sink status gained tells =
+  mirror_written sink status gained reports =
       let is : IsReportStatus (mirror_status scenario made.left made.right answers) status =
-      told_by (has_break scenario.parts (made.left ∷ made.right ∷ [])) (list_any is_lost answers) status
-      (subst (λ n. TellsStatus n status) made.status tells) in
-      told_writes (IsMirrored scenario hearing) sink number status tells
+      reported_by (has_break scenario.parts (made.left ∷ made.right ∷ [])) (list_any is_lost answers) status
+      (subst (λ n. ReportsStatus n status) made.status reports) in
+      reported_writes (IsMirrored scenario hearing) sink number status reports
       (record { text = text_made; answer = mirrored status is; gained = gained })
 
-  -- a report of which a front was written
+  -- a prefix of a report was written
   pub mirror_begun : (sink : Change) → GainsFront sink text_made → IsBegun (IsMirrored scenario hearing) sink
   mirror_begun sink front =
       let is = known_status (has_break scenario.parts (made.left ∷ made.right ∷ [])) (list_any is_lost answers) in
@@ -107,11 +108,11 @@ module _ (scenario : Scenario) (hearing : List Listening) (report : Report) (ans
 pub mirror_made_at : (scenario : Scenario) (hearing : List Listening) (run : Run) (answers : List MirrorAnswer) (report : Report) (number : ℕ)
     (left right : List Event) → IsValidScenario scenario → AreRuns scenario.parts (map events_in run.journals)
     → map events_in run.journals ≡ left ∷ right ∷ [] → IsMirrorRun scenario left right answers
-    → run.taps ≡ map result_of (told_all (in_parts 0 (map events_in run.journals)) (map settled hearing)) → report.run ≡ run
+    → run.taps ≡ map result_of (after_hearing_all (in_parts 0 (map events_in run.journals)) (map settled hearing)) → report.run ≡ run
     → IsReport scenario report
     → number ≡ (if report.status == 7 then 7 else if list_any is_lost answers then 1 else 0)
     → IsMirrorMade scenario hearing report answers number
-mirror_made_at scenario hearing run answers report number left right valid runs two is totals e whole told =
+mirror_made_at scenario hearing run answers report number left right valid runs two is totals e whole printed =
     let journals : map events_in report.run.journals ≡ left ∷ right ∷ [] = ap (λ (r : Run). map events_in r.journals) e ∙ two in
     let apart : report.status ≡ status_of scenario.parts (left ∷ right ∷ []) =
     whole.status ∙ ap (λ js. status_of scenario.parts js) journals in record {
@@ -120,12 +121,12 @@ mirror_made_at scenario hearing run answers report number left right valid runs 
       journals = journals;
       run = is;
       safe = subst (λ js. AreSafe scenario.parts js) two (all_safe scenario (map events_in run.journals) valid runs);
-      told =
+      printed =
           ap (λ (r : Run). r.taps) e ∙ (totals
           ∙ (all_totals hearing (in_parts 0 (map events_in run.journals))
           ∙ ap (λ js. map (λ l. tap_result l (in_parts 0 js)) hearing) two));
       status =
-          told ∙ (ap (λ (n : ℕ). if n == 7 then 7 else if list_any is_lost answers then 1 else 0) apart
+          printed ∙ (ap (λ (n : ℕ). if n == 7 then 7 else if list_any is_lost answers then 1 else 0) apart
           ∙ apart_by (has_break scenario.parts (left ∷ right ∷ [])) (has_given_up scenario.parts (left ∷ right ∷ [])) (list_any is_lost answers));
       is_report = whole;
     }

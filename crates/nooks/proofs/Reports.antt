@@ -1,4 +1,4 @@
--- The writing of reports and of summaries ends as the status tells.
+-- Writing a report or a summary ends with the status of the run.
 use Rattle.std.proofs.Common.{◌≡◌, ℕ, ◌^◌, ◌<◌, ◌≤◌, Bool, true, false, if◌then◌else◌, List, [], ◌∷◌, length, map, Result, Ok, Err, IfOk, refl, sym, ap, ◌∙◌, subst, arith, true≢false}
 use Rattle.nook_data.specs.declared.steps.Event.{Event}
 use Rattle.nook_data.specs.declared.scenario.PartSpec.{PartSpec}
@@ -12,15 +12,15 @@ use Rattle.report_defs.specs.ReportText.{summary_line}
 use Rattle.nook_data.specs.Views.Room.{Kept}
 use Rattle.run_defs.specs.Simulation.{begins, journals_of}
 use Rattle.nook_data.specs.Valid.{IsValidScenario}
-use Rattle.report_text.specs.Statuses.{status_number}
-use Rattle.report_text.specs.Whole.{IsReport, failures_in, lists_of, summaries}
-use Rattle.report_text.proofs.WholeLemmas.{same_failures}
-use Rattle.report_text.specs.declared.whole_report.PartEnd.{PartEnd}
-use Rattle.report_text.specs.declared.whole_report.Report.{Report}
-use Rattle.report_text.specs.declared.report.Run.{Run}
-use Rattle.report_text.specs.declared.status.ReportStatus.{ReportStatus}
-use Rattle.report_text.specs.declared.status.ReportStatus.TheVariants as reports
-use Rattle.request_taps.specs.Bus.{result_of, settled, told_all}
+use Rattle.run_results.specs.Statuses.{status_number}
+use Rattle.run_results.specs.Reports.{IsReport, failures_in, lists_of, summaries}
+use Rattle.run_results.proofs.ResultLemmas.{same_failures}
+use Rattle.run_results.specs.declared.report.PartEnd.{PartEnd}
+use Rattle.run_results.specs.declared.report.Report.{Report}
+use Rattle.run_results.specs.declared.run.Run.{Run}
+use Rattle.run_results.specs.declared.status.ReportStatus.{ReportStatus}
+use Rattle.run_results.specs.declared.status.ReportStatus.TheVariants as reports
+use Rattle.request_taps.specs.Bus.{result_of, settled, after_hearing_all}
 use Rattle.request_taps.specs.declared.tap.Tap.{Tap}
 use Rattle.request_taps.proofs.Totals.{all_totals}
 use Rattle.sim_run.specs.Published.{published}
@@ -34,11 +34,12 @@ use Rattle.nook_data.specs.declared.calls.Answer.{Answer}
 use Rattle.run_laws.proofs.Reached.{parts_answered}
 use Rattle.nooks.specs.Answers.{IsByThreads, IsReportStatus, IsReported, IsRunOf, IsScheduled, IsSummary, IsWhole}
 use Rattle.nooks.specs.Endings.{IsBegun, IsWritten, Writes}
-use Rattle.nooks.specs.Making.{IsMade, TellsStatus, left_of}
-use Rattle.nooks.specs.Streams.{Change, Gains, GainsFront}
+use Rattle.nooks.specs.Making.{IsMade, ReportsStatus, left_of}
+use Rattle.nook_io.specs.Changes.{Change}
+use Rattle.nooks.specs.Streams.{Gains, GainsFront}
 use Rattle.sim_run.proofs.Reaching.{few_events}
 use Rattle.run_ends.specs.declared.whole_run.WholeRun.{WholeRun}
-use Rattle.run_ends.specs.Journals.{AreRuns, events_in}
+use Rattle.run_results.specs.Journals.{AreRuns, events_in}
 use Rattle.sim_run.specs.Whole.{IsSimulated}
 
 -- ---- the status
@@ -58,7 +59,7 @@ pub status_known : (specs : List PartSpec) (journals : List (List Event)) → (s
     → status_of specs journals ≡ 7
 status_known specs journals not_done not_gone = known_by (has_break specs journals) (has_given_up specs journals) not_done not_gone
 
--- the number of a run's status is that of one of a report
+-- the number of a run's status is that of a report's status
 one_of_three : (number : ℕ) (broken gone : Bool) → number ≡ status_by broken gone
     → ((status : ReportStatus) → status_number status ≡ number → false ≡ true) → ⊥
 one_of_three number true gone e none = true≢false (sym (none reports.Broken (sym e)))
@@ -80,34 +81,34 @@ known_status false false = (ended.Done, refl)
 pub run_status : (specs : List PartSpec) (journals : List (List Event)) → (status : Status) × IsReportStatus (status_of specs journals) status
 run_status specs journals = known_status (has_break specs journals) (has_given_up specs journals)
 
--- a status that is told by its number is the run's
-pub told_status : (specs : List PartSpec) (journals : List (List Event)) (number : ℕ) (status : Status) → number ≡ status_of specs journals
-    → TellsStatus number status → IsReportStatus (status_of specs journals) status
-told_status specs journals number ended.Done e tells = sym e ∙ tells
-told_status specs journals number ended.GivenUp e tells = sym e ∙ tells
-told_status specs journals number ended.Usage e tells = absurd tells
-told_status specs journals number ended.BadInput e tells = absurd tells
-told_status specs journals number ended.ReadFault e tells = absurd tells
-told_status specs journals number ended.WriteFault e tells = absurd tells
-told_status specs journals number ended.NoMemory e tells = absurd tells
-told_status specs journals number ended.AuditNo e tells = absurd tells
-told_status specs journals number ended.Cut e tells = absurd tells
-told_status specs journals number ended.ContractBroken e tells =
-    status_known specs journals (λ z. tells.0 (e ∙ z)) (λ o. tells.1 (e ∙ o))
+-- a status with the number of the run's status is the run's
+pub reported_status : (specs : List PartSpec) (journals : List (List Event)) (number : ℕ) (status : Status) → number ≡ status_of specs journals
+    → ReportsStatus number status → IsReportStatus (status_of specs journals) status
+reported_status specs journals number ended.Done e reports = sym e ∙ reports
+reported_status specs journals number ended.GivenUp e reports = sym e ∙ reports
+reported_status specs journals number ended.Usage e reports = absurd reports
+reported_status specs journals number ended.BadInput e reports = absurd reports
+reported_status specs journals number ended.ReadFault e reports = absurd reports
+reported_status specs journals number ended.WriteFault e reports = absurd reports
+reported_status specs journals number ended.NoMemory e reports = absurd reports
+reported_status specs journals number ended.AuditNo e reports = absurd reports
+reported_status specs journals number ended.Cut e reports = absurd reports
+reported_status specs journals number ended.ContractBroken e reports =
+    status_known specs journals (λ z. reports.0 (e ∙ z)) (λ o. reports.1 (e ∙ o))
 
--- what was written whole ends with a status that is told
-pub told_writes : (Answer : List ℕ → Status → Type 0) (sink : Change) (number : ℕ) (status : Status) → TellsStatus number status
+-- what was written in full ends with the reported status
+pub reported_writes : (Answer : List ℕ → Status → Type 0) (sink : Change) (number : ℕ) (status : Status) → ReportsStatus number status
     → IsWritten Answer sink status → Writes Answer sink status
-told_writes Answer sink number ended.Done tells written = written
-told_writes Answer sink number ended.GivenUp tells written = written
-told_writes Answer sink number ended.Usage tells written = absurd tells
-told_writes Answer sink number ended.BadInput tells written = absurd tells
-told_writes Answer sink number ended.ReadFault tells written = absurd tells
-told_writes Answer sink number ended.WriteFault tells written = absurd tells
-told_writes Answer sink number ended.NoMemory tells written = absurd tells
-told_writes Answer sink number ended.AuditNo tells written = absurd tells
-told_writes Answer sink number ended.Cut tells written = absurd tells
-told_writes Answer sink number ended.ContractBroken tells written = written
+reported_writes Answer sink number ended.Done reports written = written
+reported_writes Answer sink number ended.GivenUp reports written = written
+reported_writes Answer sink number ended.Usage reports written = absurd reports
+reported_writes Answer sink number ended.BadInput reports written = absurd reports
+reported_writes Answer sink number ended.ReadFault reports written = absurd reports
+reported_writes Answer sink number ended.WriteFault reports written = absurd reports
+reported_writes Answer sink number ended.NoMemory reports written = absurd reports
+reported_writes Answer sink number ended.AuditNo reports written = absurd reports
+reported_writes Answer sink number ended.Cut reports written = absurd reports
+reported_writes Answer sink number ended.ContractBroken reports written = written
 
 -- ---- reports
 
@@ -122,20 +123,20 @@ reported asked scenario hearing report status made is = record {
   text_is = ap (λ s. report_text scenario (map events_in report.run.journals) report.run.answers report.run.taps s) made.is_report.status;
 }
 
--- a report that was written ends as its status tells
+-- a report that was written in full ends with its status
 pub report_written : (asked : Form) (scenario : Scenario) (hearing : List Listening) (report : Report) (sink : Change) (status : Status)
     → IsMade asked scenario hearing report
     → Gains sink (report_text scenario (map events_in report.run.journals) report.run.answers report.run.taps report.status)
-    → TellsStatus report.status status → Writes (IsReported asked scenario hearing) sink status
-report_written asked scenario hearing report sink status made gained tells =
-    let is = told_status scenario.parts (map events_in report.run.journals) report.status status made.is_report.status tells in
-    told_writes (IsReported asked scenario hearing) sink report.status status tells (record {
+    → ReportsStatus report.status status → Writes (IsReported asked scenario hearing) sink status
+report_written asked scenario hearing report sink status made gained reports =
+    let is = reported_status scenario.parts (map events_in report.run.journals) report.status status made.is_report.status reports in
+    reported_writes (IsReported asked scenario hearing) sink report.status status reports (record {
       text = report_text scenario (map events_in report.run.journals) report.run.answers report.run.taps report.status;
       answer = reported asked scenario hearing report status made is;
       gained = gained;
     })
 
--- a report of which a front was written
+-- a prefix of a report was written
 pub report_begun : (asked : Form) (scenario : Scenario) (hearing : List Listening) (report : Report) (sink : Change) → IsMade asked scenario hearing report
     → GainsFront sink (report_text scenario (map events_in report.run.journals) report.run.answers report.run.taps report.status)
     → IsBegun (IsReported asked scenario hearing) sink
@@ -198,19 +199,19 @@ summed number report status made is = record {
   text_is = refl;
 }
 
--- a line that was written ends as its status tells
+-- a line that was written in full ends with its status
 pub summary_written : (number : ℕ) (report : Report) (sink : Change) (status : Status) → IsMade form.Run (generated number) [] report
-    → Gains sink (summary_line number (generated number).parts (map events_in report.run.journals)) → TellsStatus report.status status
+    → Gains sink (summary_line number (generated number).parts (map events_in report.run.journals)) → ReportsStatus report.status status
     → Writes (IsSummary number) sink status
-summary_written number report sink status made gained tells =
-    let is = told_status (generated number).parts (map events_in report.run.journals) report.status status made.is_report.status tells in
-    told_writes (IsSummary number) sink report.status status tells (record {
+summary_written number report sink status made gained reports =
+    let is = reported_status (generated number).parts (map events_in report.run.journals) report.status status made.is_report.status reports in
+    reported_writes (IsSummary number) sink report.status status reports (record {
       text = summary_line number (generated number).parts (map events_in report.run.journals);
       answer = summed number report status made is;
       gained = gained;
     })
 
--- a line of which a front was written
+-- a prefix of a line was written
 pub summary_begun : (number : ℕ) (report : Report) (sink : Change) → IsMade form.Run (generated number) [] report
     → GainsFront sink (summary_line number (generated number).parts (map events_in report.run.journals)) → IsBegun (IsSummary number) sink
 summary_begun number report sink made front =
@@ -233,9 +234,9 @@ scheduled_of scenario hearing run old new begun s = record {
   scheduled = s.scheduled;
   same_journals = s.same_journals;
   same_answers = s.same_answers;
-  told =
+  printed =
       s.same_totals ∙ (ap (map result_of) s.heard
-      ∙ (ap (λ taps. map result_of (told_all (published s.scheduled.steps (begins scenario)) taps)) begun
+      ∙ (ap (λ taps. map result_of (after_hearing_all (published s.scheduled.steps (begins scenario)) taps)) begun
       ∙ all_totals hearing (published s.scheduled.steps (begins scenario))));
 }
 
@@ -269,20 +270,20 @@ made_of scenario hearing x (Ok report) old new begun valid simulated runs same w
 
 -- the report of a run by threads
 by_threads_of : (scenario : Scenario) (hearing : List Listening) (run : Run) (old new : List (Tap Listening)) → old ≡ map settled hearing
-    → IsThreaded scenario (map events_in run.journals) run.answers → new ≡ told_all (in_parts 0 (map events_in run.journals)) old
+    → IsThreaded scenario (map events_in run.journals) run.answers → new ≡ after_hearing_all (in_parts 0 (map events_in run.journals)) old
     → run.taps ≡ map result_of new → IsByThreads scenario hearing (left_of run)
 by_threads_of scenario hearing run old new begun is heard totals = record {
   threaded = is;
-  told =
+  printed =
       totals ∙ (ap (map result_of) heard
-      ∙ (ap (λ taps. map result_of (told_all (in_parts 0 (map events_in run.journals)) taps)) begun
+      ∙ (ap (λ taps. map result_of (after_hearing_all (in_parts 0 (map events_in run.journals)) taps)) begun
       ∙ all_totals hearing (in_parts 0 (map events_in run.journals))));
 }
 
 pub threads_made_of : (scenario : Scenario) (hearing : List Listening) (x : WholeRun) (r : Result Report NoMemory) (old new : List (Tap Listening))
     → old ≡ map settled hearing → IsValidScenario scenario → AreRuns scenario.parts (map events_in x.run.journals)
     → IsThreaded scenario (map events_in x.run.journals) x.run.answers → AreAnswered scenario x.run.answers
-    → new ≡ told_all (in_parts 0 (map events_in x.run.journals)) old → x.run.taps ≡ map result_of new
+    → new ≡ after_hearing_all (in_parts 0 (map events_in x.run.journals)) old → x.run.taps ≡ map result_of new
     → IfOk r (λ report. report.run ≡ x.run) → IfOk r (λ report. IsReport scenario report) → IfOk r (IsMade form.RunThreads scenario hearing)
 threads_made_of scenario hearing x (Err e) old new begun valid runs is answered heard totals same whole = same
 threads_made_of scenario hearing x (Ok report) old new begun valid runs is answered heard totals same whole =

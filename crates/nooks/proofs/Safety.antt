@@ -8,7 +8,7 @@ use Rattle.nook_data.specs.declared.scenario.Scenario.{Scenario}
 use Rattle.nook_data.specs.Valid.{IsValidPart, IsValidScenario}
 use Rattle.headline_laws.proofs.Safe.{run_safe}
 use Rattle.headline_laws.specs.Headline.{AreSafe}
-use Rattle.run_ends.specs.Journals.{AreRuns}
+use Rattle.run_results.specs.Journals.{AreRuns}
 
 safe_each : (specs : List PartSpec) (journals : List (List Event)) → AllByRecursion IsValidPart specs → AreRuns specs journals → AreSafe specs journals
 unfolding AreSafe

@@ -1,4 +1,4 @@
--- What the writing of an answer leaves, from the texts up to the call.
+-- What is written of an answer, from single texts up to the call.
 use Rattle.std.proofs.Common.{◌≡◌, ℕ, true, List, [], ◌∷◌, map, ap, Result, Ok, IfOk, ◌⊎◌, inl, inr, Option, Some, None, refl, sym, ◌∙◌, subst, true≢false}
 use Rattle.std.specs.Io.KnownBytes.{Keeps}
 use Rattle.input_defs.specs.Faults.{fault_line}
@@ -15,7 +15,8 @@ use Rattle.request_taps.specs.declared.tap.Tap.{Tap}
 use Rattle.nooks.specs.Answers.{Answers, AnswersInput, IsFaultOf, IsRefusalLine, IsReported, Says}
 use Rattle.nooks.specs.Endings.{AnswersWords, Ends, IsAnswerTo, IsAnswerStatus, IsBegun, IsCut, IsWritten, ReadsFor, StopWrites, Writes}
 use Rattle.command_forms.specs.Forms.{Asks, is_reading, limit_of}
-use Rattle.nooks.specs.Streams.{Change, Gains, GainsFront, GainsNothing, HasFailed, Input, Reads, TooLong, Whole}
+use Rattle.nook_io.specs.Changes.{Change}
+use Rattle.nooks.specs.Streams.{Gains, GainsFront, GainsNothing, HasFailed, Input, Reads, TooLong, Whole}
 use Rattle.nooks.specs.Texts.{at_root, usage_text}
 use Rattle.nooks.specs.declared.program.Status.{Status}
 use Rattle.nooks.specs.declared.program.Status.TheVariants as ended
@@ -24,7 +25,7 @@ use Rattle.command_forms.specs.declared.words.Form.TheVariants as form
 
 -- ---- one text
 
--- a text that was written whole
+-- a text that was written in full
 pub says_written : (status : Status) (text : List ℕ) (sink : Change) → IsAnswerStatus status → Gains sink text → Writes (Says text status) sink status
 says_written ended.Done text sink is gained = record { text = text; answer = (refl, refl); gained = gained }
 says_written ended.GivenUp text sink is gained = record { text = text; answer = (refl, refl); gained = gained }
@@ -37,19 +38,19 @@ says_written ended.ContractBroken text sink is gained = record { text = text; an
 says_written ended.AuditNo text sink is gained = record { text = text; answer = (refl, refl); gained = gained }
 says_written ended.Cut text sink is gained = record { text = text; answer = (refl, refl); gained = gained }
 
--- a text of which a front was written
+-- a prefix of a text was written
 pub says_begun : (status : Status) (text : List ℕ) (sink : Change) → HasFailed sink → GainsFront sink text → Writes (Says text status) sink ended.WriteFault
 says_begun status text sink failed front =
     (failed, record { text = text; status = status; answer = (refl, refl); gained = front })
 
--- a text of which memory allowed a front
+-- a prefix of a text was written before memory ran out
 pub says_cut : (status : Status) (text : List ℕ) (sink : Change) → GainsFront sink text → Writes (Says text status) sink ended.NoMemory
 says_cut status text sink front = inr (record { text = text; status = status; answer = (refl, refl); gained = front })
 
--- what tells its bytes keeps them where nothing was done
-pub kept_told : (told : Option (List ℕ)) → Keeps told told
-kept_told None = tt
-kept_told (Some bytes) = refl
+-- a stream with known bytes keeps them if nothing was done
+pub kept_reported : (printed : Option (List ℕ)) → Keeps printed printed
+kept_reported None = tt
+kept_reported (Some bytes) = refl
 
 -- ---- an answer of one kind is one of another
 
@@ -83,7 +84,7 @@ writes_more A B sink ended.Cut more ends = written_more A B sink ended.Cut more 
 
 -- ---- what was read
 
--- a form that reads is answered by what its input is
+-- for a subcommand that reads, the answer to its input is its answer
 pub answers_input : (asked : Form) (input : Input) (hearing : List Listening) (text : List ℕ) (status : Status) → is_reading asked ≡ true
     → AnswersInput asked input hearing text status → Answers (Some asked) input hearing text status
 answers_input form.Run input hearing text status reads answer = answer
@@ -103,7 +104,7 @@ answers_input (form.GenScenario number) input hearing text status reads answer =
 answers_input form.Help input hearing text status reads answer = absurd (true≢false (sym reads))
 answers_input form.Version input hearing text status reads answer = absurd (true≢false (sym reads))
 
--- the call ends as the writing of an answer
+-- the call ends as the writing of an answer does
 writes_end : (asked : Option Form) (hearing : List Listening) (source : Change) (sink : Change) (status : Status)
     → Writes (IsAnswerTo asked hearing source) sink status → Ends asked hearing source sink status
 writes_end asked hearing source sink ended.Done ends = ends
@@ -126,7 +127,7 @@ input_ends asked input hearing source limit sink status reading limited reads en
     (writes_more (AnswersInput asked input hearing) (IsAnswerTo (Some asked) hearing source) sink status
     (λ text s answer. record { input = input; read = λ _. subst (λ l. Reads source l input) limited reads; answer = answers_input asked input hearing text s reading answer }) ends)
 
--- words that ask for no input, and were answered
+-- arguments that ask for no input, and were answered
 pub unread_ends : (asked : Option Form) (hearing : List Listening) (source : Change) (sink : Change) (status : Status)
     (Answer : List ℕ → Status → Type 0) → ReadsFor asked source TooLong
     → ((text : List ℕ) (s : Status) → Answer text s → Answers asked TooLong hearing text s) → Writes Answer sink status
@@ -136,7 +137,7 @@ unread_ends asked hearing source sink status Answer reads more ends =
     (writes_more Answer (IsAnswerTo asked hearing source) sink status
     (λ text s answer. record { input = TooLong; read = reads; answer = more text s answer }) ends)
 
--- words of no form
+-- arguments of no subcommand
 pub no_form_ends : (text : List ℕ) (hearing : List Listening) (source : Change) (sink : Change) (status : Status) → text ≡ usage_text
     → Writes (Says text ended.Usage) sink status → Ends None hearing source sink status
 no_form_ends text hearing source sink status e ends =
@@ -203,13 +204,13 @@ ends_write_fault asked hearing source sink status ends e =
 
 -- ---- listeners
 
--- listeners that are settled, held one by one or all at once
+-- wrapped listeners, settled in one step or in two
 settled_held : {T L : Type 0} (hold : T → L) (listening : L → Listening) (values : List T)
     → map (λ l. settled (listening l)) (map hold values) ≡ map settled (map (λ v. listening (hold v)) values)
 settled_held hold listening [] = refl
 settled_held hold listening (v ∷ values) = ap (λ taps. settled (listening (hold v)) ∷ taps) (settled_held hold listening values)
 
--- a bus of held values
+-- a bus of wrapped values
 pub bus_settled : {T L B E : Type 0} (r : Result B E) (taps : B → List (Tap Listening)) (hold : T → L) (listening : L → Listening) (values : List T)
     (held : List L) → held ≡ map hold values → IfOk r (λ bus. taps bus ≡ map (λ l. settled (listening l)) held)
     → IfOk r (λ bus. taps bus ≡ map settled (map (λ v. listening (hold v)) values))
@@ -232,7 +233,7 @@ scenario_answered_by_threads bytes scenario hearing sink status reading ends =
     writes_more (IsReported form.RunThreads scenario hearing) (AnswersInput form.RunThreads (Whole bytes) hearing) sink status
     (λ text s reported. inr (record { scenario = scenario; reading = reading; reported = reported })) ends
 
--- ---- faults of an input
+-- ---- input errors
 
 -- bytes that are refused
 pub refused : (asked : Form) (bytes : List ℕ) (hearing : List Listening) (T : Type 0) (reading : Result T Refusal) (stop : ScenarioFault)

@@ -1,5 +1,5 @@
--- What the program answers: for the form of the words, what was read and who listens, the text that is written and the
--- status that it ends with. It is a relation, since the threads of `run threads` may take their turns in many orders.
+-- What the program answers: for its subcommand, its input and its listeners, the text that is written and the status
+-- that it ends with. It is a relation, since the threads of `run threads` may take their turns in many orders.
 use Rattle.std.specs.Prelude.{◌≡◌, ℕ, ◌<◌, ◌≤◌, List, [], ◌∷◌, ◌++◌, ◌⊎◌, All, length, map, Bool, true, false, Option, Some}
 use Rattle.std.specs.Prelude.{None, Result, Ok, Err}
 use Rattle.std.specs.List.{AllZip}
@@ -48,7 +48,7 @@ use Rattle.part_defs.specs.Runs.{state_of}
 use Rattle.part_laws.specs.Facts.{is_dead}
 use Rattle.promise_defs.specs.Contract.{first_break}
 use Rattle.image_list.specs.ListText.{list_text}
-use Rattle.burst_trace.specs.Retold.{TellsBurst}
+use Rattle.burst_trace.specs.Retold.{ReportsBurst}
 use Rattle.burst_trace.specs.Text.{IsTraceText}
 use Rattle.scenario_write.specs.ScenarioText.{scenario_line}
 use Rattle.audit_input.specs.Handed.{Hands, HandsNothing}
@@ -67,7 +67,7 @@ use Rattle.command_forms.specs.declared.words.Form.TheVariants as form
 
 -- ---- the status
 
--- the status of a report of which this is the number
+-- the status of a report with this number
 abbrev pub IsReportStatus : ℕ → Status → Type 0
 IsReportStatus number ended.Done = number ≡ 0
 IsReportStatus number ended.GivenUp = number ≡ 1
@@ -76,32 +76,32 @@ IsReportStatus number status = ⊥
 
 -- ---- runs
 
--- what a run left: a journal a part, the answers of each thread, and the totals of each listener
+-- what a run left: a journal for each part, the answers of each thread, and the totals of each listener
 pub record Left : Type 0 where
   pub journals : List (List Event)
   pub answers : List (List (ℕ × Answer))
   pub taps : List (ℕ × Bool)
 
--- it is the scenario's scheduled run, each event of which the listeners count as it is made
+-- it is the scenario's scheduled run, and the listeners count each event as it is made
 pub record IsScheduled (scenario : Scenario) (hearing : List Listening) (left : Left) : Type 0 where
   pub simulation : Simulation
   pub scheduled : IsScheduledRun scenario simulation
   pub same_journals : left.journals ≡ journals_of simulation
   pub same_answers : left.answers ≡ answer_table simulation
-  pub told : left.taps ≡ map (λ l. tap_result l (published scheduled.steps (begins scenario))) hearing
+  pub printed : left.taps ≡ map (λ l. tap_result l (published scheduled.steps (begins scenario))) hearing
 
--- it is a run by the scenario's threads, of which the listeners count the journals' events, part by part
+-- it is a run by the scenario's threads, and the listeners count the journals' events, part by part
 pub record IsByThreads (scenario : Scenario) (hearing : List Listening) (left : Left) : Type 0 where
   pub threaded : IsThreaded scenario left.journals left.answers
-  pub told : left.taps ≡ map (λ l. tap_result l (in_parts 0 left.journals)) hearing
+  pub printed : left.taps ≡ map (λ l. tap_result l (in_parts 0 left.journals)) hearing
 
--- it is the run of the scenario that a form asks for
+-- it is the run of the scenario that a subcommand asks for
 abbrev pub IsRunOf : Form → Scenario → List Listening → Left → Type 0
 IsRunOf form.Run scenario hearing left = IsScheduled scenario hearing left
 IsRunOf form.RunThreads scenario hearing left = IsByThreads scenario hearing left
 IsRunOf asked scenario hearing left = ⊥
 
--- every part of it is safe, and every operation of every thread has its answer
+-- every part of the run is safe, and every operation of every thread has its answer
 pub record IsWhole (scenario : Scenario) (left : Left) : Type 0 where
   pub safe : AreSafe scenario.parts left.journals
   pub answered : AreAnswered scenario left.answers
@@ -126,38 +126,38 @@ pub record IsSummary (number : ℕ) (text : List ℕ) (status : Status) : Type 0
   pub status_is : IsReportStatus (status_of (generated number).parts left.journals) status
   pub text_is : text ≡ summary_line number (generated number).parts left.journals
 
--- the report of the run of the scenario that some bytes are
+-- the report of the run of the scenario in some bytes
 pub record IsReportOf (asked : Form) (bytes : List ℕ) (hearing : List Listening) (text : List ℕ)
     (status : Status) : Type 0 where
   pub scenario : Scenario
   pub reading : scenario_from bytes ≡ Ok scenario
   pub reported : IsReported asked scenario hearing text status
 
--- the image of the assembler text that some bytes are
+-- the image of the assembler text in some bytes
 pub record IsImageOf (bytes text : List ℕ) : Type 0 where
   pub image : Image
   pub reading : image_from_asm bytes ≡ Ok image
   pub text_is : text ≡ image_text image
 
--- the assembler text of the image that some bytes are
+-- the assembler text of the image in some bytes
 pub record IsAsmOf (bytes text : List ℕ) : Type 0 where
   pub image : Image
   pub reading : image_from bytes ≡ Ok image
   pub text_is : text ≡ disassembled image
 
--- the refusal of an assembler text is that of its fault
+-- an assembler text's error as a refusal of the input
 abbrev pub or_bad_text : Result (List ℕ) AsmFault → Result (List ℕ) Refusal
 or_bad_text (Ok text) = Ok text
 or_bad_text (Err asm) = Err (at_root (fault.BadAsm asm))
 
--- the listing of the assembler text that some bytes are, or its first fault
+-- the listing of the assembler text in some bytes, or its first error
 abbrev pub listing_from : List ℕ → Result (List ℕ) Refusal
 listing_from bytes = or_bad_text (list_text bytes)
 
 -- ---- audits
 
--- a report is that of runs of which all that is promised of runs holds, of which each has just the scripts' invocations
--- and the scenario's arrivals, and which are one run
+-- A report is that of runs that keep all promises of runs. Each run has exactly the scripts' invocations
+-- and the scenario's arrivals, and together they are one run.
 pub record IsSound (scenario : Scenario) (report : List ℕ) : Type 0 where
   pub journals : List (List Event)
   pub fit : AllFit scenario.threads 0 scenario.parts journals
@@ -178,7 +178,7 @@ pub record IsVerdict (scenario : Scenario) (report text : List ℕ) (status : St
   pub status_is : status ≡ verdict_status found
   pub sound : found ≡ None → IsSound scenario report
 
--- the verdict on the report that some bytes hand in behind its scenario
+-- the verdict on the report that follows its scenario in some bytes
 pub record IsAuditOf (bytes text : List ℕ) (status : Status) : Type 0 where
   pub handed : List ℕ
   pub report : List ℕ
@@ -191,7 +191,7 @@ pub record IsAuditOf (bytes text : List ℕ) (status : Status) : Type 0 where
 -- ---- mirrors
 
 -- the report of a run of the mirror of a scenario, which the listeners count journal by journal, and its status; every
--- part of it is safe, and the printed answers are the mirror's
+-- part of the run is safe, and the printed answers are the mirror's
 pub record IsMirrored (scenario : Scenario) (hearing : List Listening) (text : List ℕ) (status : Status) : Type 0 where
   pub left : List Event
   pub right : List Event
@@ -199,12 +199,12 @@ pub record IsMirrored (scenario : Scenario) (hearing : List Listening) (text : L
   pub taps : List (ℕ × Bool)
   pub run : IsMirrorRun scenario left right answers
   pub safe : AreSafe scenario.parts (left ∷ right ∷ [])
-  pub told : taps ≡ map (λ l. tap_result l (in_parts 0 (left ∷ right ∷ []))) hearing
+  pub printed : taps ≡ map (λ l. tap_result l (in_parts 0 (left ∷ right ∷ []))) hearing
   pub status_is : IsReportStatus (mirror_status scenario left right answers) status
   pub text_is : text
       ≡ mirror_report_text scenario (left ∷ right ∷ []) answers taps (mirror_status scenario left right answers)
 
--- the report of the mirror of the scenario that some bytes are
+-- the report of the mirror of the scenario in some bytes
 pub record IsMirrorOf (bytes : List ℕ) (hearing : List Listening) (text : List ℕ) (status : Status) : Type 0 where
   pub scenario : Scenario
   pub reading : scenario_from bytes ≡ Ok scenario
@@ -213,34 +213,34 @@ pub record IsMirrorOf (bytes : List ℕ) (hearing : List Listening) (text : List
 
 -- ---- traces
 
--- the trace of a burst of a part, in the scheduled run of the scenario that some bytes are; it tells that burst
+-- the trace of a burst of a part, in the scheduled run of the scenario in some bytes; it shows that burst
 pub record IsTraceOf (bytes : List ℕ) (part burst : ℕ) (text : List ℕ) : Type 0 where
   pub scenario : Scenario
   pub reading : scenario_from bytes ≡ Ok scenario
   pub trace : IsTraceText scenario part burst (Some text)
-  pub tells : TellsBurst scenario.parts (journals_of trace.simulation) part burst text
+  pub reports : ReportsBurst scenario.parts (journals_of trace.simulation) part burst text
 
 -- ---- guards
 
--- a driver broke no clause of its class's contract; so to its applications its part is a device that never fails, unless
--- it was given up
+-- A driver broke no clause of its class's contract. So to its applications its part is a device that never fails,
+-- unless the part was given up.
 pub record IsKept (spec : PartSpec) (journal : List Event) : Type 0 where
   pub unbroken : first_break spec.class spec.blocks journal ≡ None
   pub transparent : is_dead (state_of spec journal).mode ≡ false → IsTransparent spec journal
 
--- so it is of each part, in order
+-- this holds of each part, in order
 abbrev pub AreKept : List PartSpec → List (List Event) → Type 0
 AreKept specs journals = AllZip IsKept specs journals
 
--- the guarded scenario of a scenario: the one of which its guarded run is the scheduled run
+-- the guarded scenario of a scenario: its scheduled run is the guarded run of the scenario
 pub record IsGuardedScenario (scenario guarded : Scenario) : Type 0 where
   pub simulation : Simulation
   pub run : IsGuardedSchedule scenario simulation
   pub same : guarded ≡ guarded_scenario scenario simulation
 
--- the report of a scenario's guarded run, behind a line for each of its traps in the order in which they were found, and
--- the run's status; each trap is needed, and whatever the drivers execute none of them breaks a clause, so that the
--- status is never 7
+-- The report of a scenario's guarded run, after a line for each of its traps in the order in which they were found, and
+-- the run's status. Each trap is needed, and whatever the drivers execute none of them breaks a clause, so that the
+-- status is never 7.
 pub record IsGuardReport (scenario : Scenario) (hearing : List Listening) (text : List ℕ) (status : Status) : Type 0 where
   pub guarded : Scenario
   pub is_guarded : IsGuardedScenario scenario guarded
@@ -262,14 +262,14 @@ pub record IsGuardedLine (scenario : Scenario) (text : List ℕ) : Type 0 where
   pub is_guarded : IsGuardedScenario scenario guarded
   pub text_is : text ≡ scenario_line guarded
 
--- the report of the guarded run of the scenario that some bytes are, each part of which has room for its traps
+-- the report of the guarded run of the scenario in some bytes, each part of which has room for its traps
 pub record IsGuardOf (bytes : List ℕ) (hearing : List Listening) (text : List ℕ) (status : Status) : Type 0 where
   pub scenario : Scenario
   pub reading : guardable_from bytes ≡ Ok scenario
   pub room : All HasRoom scenario.parts
   pub reported : IsGuardReport scenario hearing text status
 
--- the guarded scenario of the one that some bytes are, each part of which has room for its traps
+-- the guarded scenario of the scenario in some bytes, each part of which has room for its traps
 pub record IsGuardedOf (bytes text : List ℕ) : Type 0 where
   pub scenario : Scenario
   pub reading : guardable_from bytes ≡ Ok scenario
@@ -278,7 +278,7 @@ pub record IsGuardedOf (bytes text : List ℕ) : Type 0 where
 
 -- ---- every order of the steps
 
--- the status of an exploration of which this is the number
+-- the status of an exploration with this number
 abbrev pub IsExploredStatus : ℕ → Status → Type 0
 IsExploredStatus number ended.Done = number ≡ 0
 IsExploredStatus number ended.GivenUp = number ≡ 1
@@ -286,20 +286,20 @@ IsExploredStatus number ended.ContractBroken = number ≡ 7
 IsExploredStatus number ended.Cut = number ≡ CUT_STATUS
 IsExploredStatus number status = ⊥
 
--- under whatever schedule a scenario runs, no part breaks its contract
+-- no part breaks its contract under any schedule of a scenario
 abbrev pub NoneEverBreaks : Scenario → Type 0
 NoneEverBreaks scenario =
     (spec : ScheduleSpec) (s : Simulation) → IsScheduledRun (with_schedule scenario spec) s → NoneBreaks s
 
--- a row for each outcome that some order of a scenario's steps has, the line that counts them, and their status; with
--- status 0 or 1 no schedule of the scenario breaks a contract
+-- A row for each outcome that some order of a scenario's steps has, the line that counts them, and their status. With
+-- status 0 or 1 no schedule of the scenario breaks a contract.
 pub record IsExploration (scenario : Scenario) (text : List ℕ) (status : Status) : Type 0 where
   pub number : ℕ
   pub explored : IsExplored scenario text number
   pub status_is : IsExploredStatus number status
   pub unbroken : (status ≡ ended.Done) ⊎ (status ≡ ended.GivenUp) → NoneEverBreaks scenario
 
--- the exploration of the scenario that some bytes are
+-- the exploration of the scenario in some bytes
 pub record IsExploredOf (bytes text : List ℕ) (status : Status) : Type 0 where
   pub scenario : Scenario
   pub reading : scenario_from bytes ≡ Ok scenario
@@ -307,8 +307,8 @@ pub record IsExploredOf (bytes text : List ℕ) (status : Status) : Type 0 where
 
 -- ---- campaigns
 
--- a campaign's run of a scenario, of which all that is promised of runs holds; with a guard every part kept its contract,
--- with no premise
+-- A campaign's run of a scenario, which keeps all promises of runs. With a guard every part kept its
+-- contract, with no premise.
 pub record IsPromised (guard : Bool) (scenario : Scenario) (ran : Ran) : Type 0 where
   pub is_run : IsRunUnder guard scenario ran
   pub whole : IsWhole ran.scenario (record {
@@ -318,7 +318,7 @@ pub record IsPromised (guard : Bool) (scenario : Scenario) (ran : Ran) : Type 0 
   })
   pub kept : guard ≡ true → AreKept ran.scenario.parts (journals_of ran.simulation)
 
--- the row of the run of the member with some faults
+-- the row of the run of the member with these faults
 pub record IsMember (plan : Plan) (base : Ran) (faults : List Fault) (row : Row) : Type 0 where
   pub ran : Ran
   pub promised : IsPromised plan.guard (struck_by plan.base plan.part faults) ran
@@ -328,7 +328,7 @@ pub record IsMember (plan : Plan) (base : Ran) (faults : List Fault) (row : Row)
 abbrev pub AreMembers : Plan → Ran → List Row → Type 0
 AreMembers plan base rows = AllZip (IsMember plan base) (members plan base) rows
 
--- the table of the campaign that some bytes are
+-- the table of the campaign in some bytes
 pub record IsTableOf (bytes text : List ℕ) : Type 0 where
   pub plan : Plan
   pub reading : plan_from bytes ≡ Ok plan
@@ -340,11 +340,11 @@ pub record IsTableOf (bytes text : List ℕ) : Type 0 where
 
 -- ---- what the program does
 
--- a text and a status are these two
+-- the text and the status are these two
 abbrev pub Says : List ℕ → Status → List ℕ → Status → Type 0
 Says line end text status = (text ≡ line) × (status ≡ end)
 
--- what some bytes are answered with that have no fault
+-- what some bytes without an input error are answered with
 abbrev pub Does : Form → List ℕ → List Listening → List ℕ → Status → Type 0
 Does form.Run bytes hearing text status = IsReportOf form.Run bytes hearing text status
 Does form.RunThreads bytes hearing text status = IsReportOf form.RunThreads bytes hearing text status
@@ -360,42 +360,42 @@ Does form.GuardScenario bytes hearing text status = IsGuardedOf bytes text × (s
 Does form.Explore bytes hearing text status = IsExploredOf bytes text status
 Does asked bytes hearing text status = ⊥
 
--- ---- faults of an input
+-- ---- input errors
 
--- the line of the fault for which a reading is refused
+-- the line of the input error for which a reading is refused
 pub record IsRefusalLine {T : Type 0} (reading : Result T Refusal) (text : List ℕ) : Type 0 where
   pub refusal : Refusal
   pub is : reading ≡ Err refusal
   pub text_is : text ≡ fault_line refusal
 
--- the line of the first fault of the scenario that is handed in for an audit
+-- the line of the first input error in the scenario of an audit
 abbrev pub IsScenarioFault : List ℕ → List ℕ → Type 0
 IsScenarioFault scenario text =
     ((limit_of form.Run < length scenario) × (text ≡ fault_line (at_root fault.TooMany)))
     ⊎ ((length scenario ≤ limit_of form.Run) × IsRefusalLine (scenario_from scenario) text)
 
--- some bytes hand in a scenario with a fault
+-- some bytes have a scenario with an input error, and a report
 pub record HandsFault (bytes text : List ℕ) : Type 0 where
   pub scenario : List ℕ
   pub report : List ℕ
   pub hands : Hands bytes scenario report
   pub fault : IsScenarioFault scenario text
 
--- some bytes are a scenario that a mirror does not serve
+-- some bytes have a scenario that a mirror does not serve
 pub record IsUnserved (bytes text : List ℕ) : Type 0 where
   pub scenario : Scenario
   pub reading : scenario_from bytes ≡ Ok scenario
   pub unserved : is_mirror scenario ≡ false
   pub text_is : text ≡ not_mirror_text
 
--- some bytes are a scenario whose scheduled run has no such part or burst
+-- some bytes have a scenario whose scheduled run has no such part or burst
 pub record HasNoBurst (bytes : List ℕ) (part burst : ℕ) (text : List ℕ) : Type 0 where
   pub scenario : Scenario
   pub reading : scenario_from bytes ≡ Ok scenario
   pub none : IsTraceText scenario part burst None
   pub text_is : text ≡ no_such_burst_text
 
--- the line of the first fault of some bytes
+-- the line of the first input error in some bytes
 abbrev pub IsFaultOf : Form → List ℕ → List ℕ → Type 0
 IsFaultOf form.Run bytes text = IsRefusalLine (scenario_from bytes) text
 IsFaultOf form.RunThreads bytes text = IsRefusalLine (scenario_from bytes) text
@@ -420,7 +420,7 @@ AnswersInput asked TooLong hearing text status = Says (fault_line (at_root fault
 AnswersInput asked (Whole bytes) hearing text status =
     (IsFaultOf asked bytes text × (status ≡ ended.BadInput)) ⊎ Does asked bytes hearing text status
 
--- what words of a form are answered with
+-- what a subcommand is answered with
 abbrev pub AnswersForm : Form → Input → List Listening → List ℕ → Status → Type 0
 AnswersForm (form.Gen number) input hearing text status = IsSummary number text status
 AnswersForm (form.GenScenario number) input hearing text status =

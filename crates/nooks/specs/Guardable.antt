@@ -8,33 +8,33 @@ use Rattle.input_defs.specs.declared.input.Refusal.{Refusal}
 use Rattle.nook_data.specs.Types.{PartSpec, Scenario}
 use Rattle.nook_data.specs.declared.limits.TheConstants.{MOST_FAULTS}
 
--- a part has room for a trap at each failure, of which there are at most one more than its limit
+-- a part has room for a trap at each failure; there is at most one more failure than its limit
 abbrev pub has_room : PartSpec → Bool
 has_room spec = nat_le (length spec.faults + (spec.limit + 1)) MOST_FAULTS
 
--- the place of the first of some parts that has no room; the first of them is at this place
+-- the index of the first part without room; the first of these parts has this index
 abbrev pub first_without_room : ℕ → List PartSpec → Option ℕ
-first_without_room place [] = None
-first_without_room place (spec ∷ specs) =
-    if has_room spec then first_without_room (suc place) specs else Some place
+first_without_room index [] = None
+first_without_room index (spec ∷ specs) =
+    if has_room spec then first_without_room (suc index) specs else Some index
 
--- the faults of the part at a place are too many
+-- the part at an index has too many faults
 abbrev pub no_room : ℕ → Refusal
-no_room place = record {
+no_room index = record {
   fault = fault.TooMany;
-  path = step.At key.Parts ∷ step.Place place ∷ step.At key.Faults ∷ [];
+  path = step.At key.Parts ∷ step.Position index ∷ step.At key.Faults ∷ [];
 }
 
--- a scenario of which this is the first part without room
+-- a scenario of which this is the first part without room, if there is one
 abbrev pub with_room : Scenario → Option ℕ → Result Scenario Refusal
 with_room scenario None = Ok scenario
-with_room scenario (Some place) = Err (no_room place)
+with_room scenario (Some index) = Err (no_room index)
 
--- a scenario that was read, where each part has room; the fault of the reading comes first
+-- a scenario that was read, if each part has room; an input error found in reading comes first
 abbrev pub guardable : Result Scenario Refusal → Result Scenario Refusal
 guardable (Ok scenario) = with_room scenario (first_without_room 0 scenario.parts)
 guardable (Err refusal) = Err refusal
 
--- the scenario that some bytes are, each part of which has room, or their first fault
+-- the scenario in some bytes, each part of which has room, or their first input error
 abbrev pub guardable_from : List ℕ → Result Scenario Refusal
 guardable_from bytes = guardable (scenario_from bytes)

@@ -1,4 +1,4 @@
--- A report in the making: what the program's own functions hand on to one another.
+-- A report in the making: what the program's internal functions pass on to one another.
 use Rattle.std.specs.Prelude.{◌≡◌, ℕ, List, [], ◌∷◌, map}
 use Rattle.guarded_run.specs.Guarded.{IsGuarded}
 use Rattle.guarded_run.specs.declared.guarded.Guarded.{Guarded}
@@ -9,10 +9,10 @@ use Rattle.nook_data.specs.declared.scenario.Scenario.{Scenario}
 use Rattle.mirrored_run.specs.Mirrors.{IsMirrorRun, mirror_status}
 use Rattle.nook_io.specs.Listening.{tap_result}
 use Rattle.headline_laws.specs.Headline.{AreSafe}
-use Rattle.report_text.specs.Whole.{IsReport}
-use Rattle.report_text.specs.declared.report.Run.{Run}
-use Rattle.report_text.specs.declared.whole_report.Report.{Report}
-use Rattle.run_ends.specs.Journals.{events_in}
+use Rattle.run_results.specs.Reports.{IsReport}
+use Rattle.run_results.specs.declared.run.Run.{Run}
+use Rattle.run_results.specs.declared.report.Report.{Report}
+use Rattle.run_results.specs.Journals.{events_in}
 use Rattle.threaded_run.specs.Threaded.{in_parts}
 use Rattle.nooks.specs.Answers.{IsRunOf, IsWhole, Left}
 use Rattle.nooks.specs.declared.program.Status.{Status}
@@ -44,13 +44,13 @@ pub record IsMirrorMade (scenario : Scenario) (hearing : List Listening) (report
   pub journals : map events_in report.run.journals ≡ left ∷ right ∷ []
   pub run : IsMirrorRun scenario left right answers
   pub safe : AreSafe scenario.parts (left ∷ right ∷ [])
-  pub told : report.run.taps ≡ map (λ l. tap_result l (in_parts 0 (left ∷ right ∷ []))) hearing
+  pub printed : report.run.taps ≡ map (λ l. tap_result l (in_parts 0 (left ∷ right ∷ []))) hearing
   pub status : number ≡ mirror_status scenario left right answers
   pub is_report : IsReport scenario report
 
--- the status by a report's number, of which any but 0 and 1 stands for a broken contract
-abbrev pub TellsStatus : ℕ → Status → Type 0
-TellsStatus number ended.Done = number ≡ 0
-TellsStatus number ended.GivenUp = number ≡ 1
-TellsStatus number ended.ContractBroken = (number ≡ 0 → ⊥) × (number ≡ 1 → ⊥)
-TellsStatus number status = ⊥
+-- the status with a report's number; any number except 0 and 1 means a broken contract
+abbrev pub ReportsStatus : ℕ → Status → Type 0
+ReportsStatus number ended.Done = number ≡ 0
+ReportsStatus number ended.GivenUp = number ≡ 1
+ReportsStatus number ended.ContractBroken = (number ≡ 0 → ⊥) × (number ≡ 1 → ⊥)
+ReportsStatus number status = ⊥

@@ -7,15 +7,15 @@ use Rattle.input_defs.specs.declared.input.Refusal.{Refusal}
 abbrev pub line : List ℕ → List ℕ
 line text = text ++ 10 ∷ []
 
--- what words of no form are answered with
+-- what the program answers to arguments of no subcommand
 abbrev pub usage_text : List ℕ
 usage_text = line (codes "usage: nooks run | run threads | asm | dis | gen N | audit | campaign | mirror")
 
--- a fault of the whole input
+-- an error of the whole input
 abbrev pub at_root : InputFault → Refusal
 at_root fault = record { fault = fault; path = [] }
 
--- what `--help` writes: a line for each form of words, and one for each status
+-- what `--help` writes: a line for each subcommand, and one for each status
 abbrev pub help_text : List ℕ
 help_text =
     line (codes "nooks run             read a scenario, simulate it, write the report")
@@ -45,15 +45,15 @@ help_text =
     ++ (line (codes "status 8              a line of the report does not fit the scenario")
     ++ line (codes "status 9              not every order was followed: too many states")))))))))))))))))))))))))
 
--- what is said of the input of `audit` that does not begin with a length, or has fewer bytes
+-- what is written for an input of `audit` that does not begin with a length, or has fewer bytes
 abbrev pub bad_header_text : List ℕ
 bad_header_text = line (codes "fault 12 bad_header /")
 
--- what is said of a scenario that a mirror does not serve
+-- what is written for a scenario that a mirror does not serve
 abbrev pub not_mirror_text : List ℕ
 not_mirror_text = line (codes "fault 13 not_mirror /")
 
--- what is said of a scenario whose run has no such part or burst
+-- what is written for a scenario whose run has no such part or burst
 abbrev pub no_such_burst_text : List ℕ
 no_such_burst_text = line (codes "fault 14 no_such_burst /")
 

@@ -1,5 +1,5 @@
-//! The forms of words that read an input and wait for nobody: what its bytes are answered with, or the line of their
-//! first fault.
+//! The subcommands that read an input and wait for no one: what its bytes are answered with, or the line of their first
+//! input error.
 
 ghost use Rattle.std.specs.Prelude.{◌≡◌, ℕ, ◌+◌, ◌≤◌, List, Some, Ok, Err, map, IfOk, IsTrue};
 ghost use Rattle.campaign_defs.specs.Members.{Ran};
@@ -17,7 +17,8 @@ ghost use Rattle.nook_data.specs.Valid.{IsValidScenario};
 ghost use Rattle.nooks.specs.Answers.{AnswersInput, IsReported, Says};
 ghost use Rattle.nooks.specs.Endings.{Ends, ReadStopWrites, StopWrites, Writes};
 ghost use Rattle.command_forms.specs.Forms.{is_alone, is_reading, limit_of};
-ghost use Rattle.nooks.specs.Streams.{Whole, change};
+ghost use Rattle.nook_io.specs.Changes.{change};
+ghost use Rattle.nooks.specs.Streams.{Whole};
 ghost use Rattle.nooks.specs.Texts.{at_root as root_refusal};
 ghost use Rattle.request_taps.specs.Bus.{seen, settled};
 ghost use Rattle.scenario_read.specs.Gives.{Gives};
@@ -46,7 +47,7 @@ use scenario_read::{ScenarioFault, fault_line, read_image, read_plan, read_scena
 use std::alloc::Global;
 use std::thread::Threads;
 
-/// Reads the source and answers its bytes. The form is one that reads, and waits for nobody.
+/// Reads the source and answers its bytes. The subcommand is one that reads, and waits for no one.
 pub fn read_and_answer<R: Threads + Sync, S: Source, K: Sink, T: Drop>(
     rt: &R,
     alloc: Global,
@@ -61,12 +62,14 @@ where
     requires alone { IsTrue (is_alone asked) }
     ensures ends { Ends (Some asked)
         (map (λ v. ⟦<Heard<T> as Listener>⟧.listening (record { value = v })) listeners.items)
-        (change S.left S.count source.old source.new) (change K.held K.count sink.old sink.new) result }
+        (change S.left S.count source.old source.new)
+        (change K.held K.count sink.old sink.new) result }
     ensures unwritten { result ≡ Status.ReadFault → sink.new ≡ sink.old }
     ensures taken { TakesAtMost (S.left source.old) (S.left source.new) (limit_of asked + 1) }
     ensures source_later { S.count source.old ≤ S.count source.new }
     ensures sink_later { K.count sink.old ≤ K.count sink.new }
-    ensures source_kept { (result ≡ Status.ReadFault → ⊥) → S.count source.new ≡ S.count source.old }
+    ensures source_kept { (result ≡ Status.ReadFault → ⊥)
+        → S.count source.new ≡ S.count source.old }
     ensures sink_kept { (result ≡ Status.WriteFault → ⊥) → K.count sink.new ≡ K.count sink.old }
 {
     match read_all(alloc, source, limit_of(asked)) {
@@ -75,7 +78,7 @@ where
     }
 }
 
-/// The most bytes of a form's input.
+/// The most bytes of a subcommand's input.
 fn limit_of(asked: Form) -> u32
     ensures { result ≡ limit_of asked }
 {
@@ -99,7 +102,7 @@ pub fn refuse_source<K: Sink>(alloc: Global, stop: ReadStop, sink: &mut K) -> St
     }
 }
 
-/// Answers the bytes of the source, or tells their first fault.
+/// Answers the bytes of the source, or reports their first input error.
 fn answer<R: Threads + Sync, K: Sink, T: Drop>(
     rt: &R,
     alloc: Global,
@@ -138,7 +141,7 @@ where
     }
 }
 
-/// Simulates the scenario of some bytes and writes the report.
+/// Simulates the scenario in some bytes and writes the report.
 fn run_scenario<K: Sink, T: Drop>(
     alloc: Global,
     bytes: &[u8],
@@ -186,7 +189,8 @@ pub fn bus_of<T: Drop>(alloc: Global, listeners: Vec<T>) -> Result<Bus<Heard<T>>
 where
     Heard<T>: Listener,
     ensures { IfOk result (λ bus. map (seen ⟦<Heard<T> as Listener>⟧.listening) bus
-        ≡ map settled (map (λ v. ⟦<Heard<T> as Listener>⟧.listening (record { value = v })) listeners.items)) }
+        ≡ map settled (map (λ v. ⟦<Heard<T> as Listener>⟧.listening
+        (record { value = v })) listeners.items)) }
 {
     let heard = all_heard(alloc, listeners)?;
     Bus::of(alloc, heard)
@@ -194,7 +198,8 @@ where
 
 /// Writes the image of an assembler text.
 fn run_asm<K: Sink>(alloc: Global, bytes: &[u8], sink: &mut K) -> Status
-    ensures ends { (hearing : List Listening) → Writes (AnswersInput Form.Asm (Whole bytes.now) hearing)
+    ensures ends { (hearing : List Listening)
+        → Writes (AnswersInput Form.Asm (Whole bytes.now) hearing)
         (change K.held K.count sink.old sink.new) result }
     ensures later { K.count sink.old ≤ K.count sink.new }
     ensures kept { (result ≡ Status.WriteFault → ⊥) → K.count sink.new ≡ K.count sink.old }
@@ -207,7 +212,8 @@ fn run_asm<K: Sink>(alloc: Global, bytes: &[u8], sink: &mut K) -> Status
 
 /// Writes the assembler text of an image.
 fn run_dis<K: Sink>(alloc: Global, bytes: &[u8], sink: &mut K) -> Status
-    ensures ends { (hearing : List Listening) → Writes (AnswersInput Form.Dis (Whole bytes.now) hearing)
+    ensures ends { (hearing : List Listening)
+        → Writes (AnswersInput Form.Dis (Whole bytes.now) hearing)
         (change K.held K.count sink.old sink.new) result }
     ensures later { K.count sink.old ≤ K.count sink.new }
     ensures kept { (result ≡ Status.WriteFault → ⊥) → K.count sink.new ≡ K.count sink.old }
@@ -218,14 +224,15 @@ fn run_dis<K: Sink>(alloc: Global, bytes: &[u8], sink: &mut K) -> Status
     }
 }
 
-/// Runs the campaign of some bytes and writes its table.
+/// Runs the campaign in some bytes and writes its table.
 fn run_campaign<R: Threads + Sync, K: Sink>(
     rt: &R,
     alloc: Global,
     bytes: &[u8],
     sink: &mut K,
 ) -> Status
-    ensures ends { (hearing : List Listening) → Writes (AnswersInput Form.Campaign (Whole bytes.now) hearing)
+    ensures ends { (hearing : List Listening)
+        → Writes (AnswersInput Form.Campaign (Whole bytes.now) hearing)
         (change K.held K.count sink.old sink.new) result }
     ensures later { K.count sink.old ≤ K.count sink.new }
     ensures kept { (result ≡ Status.WriteFault → ⊥) → K.count sink.new ≡ K.count sink.old }
@@ -236,7 +243,7 @@ fn run_campaign<R: Threads + Sync, K: Sink>(
     }
 }
 
-/// Writes the table of a campaign, a batch of its members after the other.
+/// Writes the table of a campaign, one batch of its members after another.
 fn give_table<R: Threads + Sync, K: Sink>(
     rt: &R,
     alloc: Global,
@@ -257,7 +264,7 @@ fn give_table<R: Threads + Sync, K: Sink>(
     }
 }
 
-/// Tells why some bytes are not read.
+/// Reports why some bytes are not read.
 pub fn refuse_for<K: Sink>(alloc: Global, sink: &mut K, stop: &ScenarioFault) -> Status
     ensures ends { StopWrites stop.now (change K.held K.count sink.old sink.new) result }
     ensures later { K.count sink.old ≤ K.count sink.new }
@@ -284,7 +291,7 @@ fn read_asm(alloc: Global, bytes: &[u8]) -> Result<Image, ScenarioFault>
     }
 }
 
-/// A fault of the whole input.
+/// An error of the whole input.
 pub fn at_root(alloc: Global, fault: InputFault) -> Refusal
     ensures { result ≡ root_refusal fault }
 {
@@ -294,7 +301,7 @@ pub fn at_root(alloc: Global, fault: InputFault) -> Refusal
     }
 }
 
-/// Writes the line that tells why an input is refused.
+/// Writes the line that says why an input is refused.
 pub fn refuse<K: Sink>(alloc: Global, sink: &mut K, refusal: &Refusal) -> Status
     ensures ends { Writes (Says (line_of refusal.now) Status.BadInput)
         (change K.held K.count sink.old sink.new) result }
@@ -309,7 +316,8 @@ pub fn refuse<K: Sink>(alloc: Global, sink: &mut K, refusal: &Refusal) -> Status
 
 /// Writes an image.
 fn give_image<K: Sink>(alloc: Global, sink: &mut K, image: &Image) -> Status
-    ensures ends { Writes (Says (image_text image.now) Status.Done) (change K.held K.count sink.old sink.new) result }
+    ensures ends { Writes (Says (image_text image.now) Status.Done)
+        (change K.held K.count sink.old sink.new) result }
     ensures later { K.count sink.old ≤ K.count sink.new }
     ensures kept { (result ≡ Status.WriteFault → ⊥) → K.count sink.new ≡ K.count sink.old }
 {
@@ -321,7 +329,8 @@ fn give_image<K: Sink>(alloc: Global, sink: &mut K, image: &Image) -> Status
 
 /// Writes the assembler text of an image.
 fn give_assembler_text<K: Sink>(alloc: Global, sink: &mut K, image: &Image) -> Status
-    ensures ends { Writes (Says (disassembled image.now) Status.Done) (change K.held K.count sink.old sink.new) result }
+    ensures ends { Writes (Says (disassembled image.now) Status.Done)
+        (change K.held K.count sink.old sink.new) result }
     ensures later { K.count sink.old ≤ K.count sink.new }
     ensures kept { (result ≡ Status.WriteFault → ⊥) → K.count sink.new ≡ K.count sink.old }
 {

@@ -1,4 +1,4 @@
-//! The form that audits: whether every line of a printed report fits its scenario.
+//! The subcommand `audit`: whether every line of a printed report fits its scenario.
 
 ghost use Rattle.std.specs.Prelude.{◌≡◌, ◌≤◌, ℕ, List, Some, IfOk};
 ghost use Rattle.audit_input.specs.Handed.{Hands};
@@ -6,7 +6,8 @@ ghost use Rattle.nook_io.specs.Listening.{Listening};
 ghost use Rattle.nook_data.specs.Valid.{IsValidScenario};
 ghost use Rattle.nooks.specs.Answers.{AnswersInput, IsVerdict, Says};
 ghost use Rattle.nooks.specs.Endings.{Writes};
-ghost use Rattle.nooks.specs.Streams.{Whole, change};
+ghost use Rattle.nook_io.specs.Changes.{change};
+ghost use Rattle.nooks.specs.Streams.{Whole};
 ghost use Rattle.nooks.specs.Texts.{verdict_text};
 
 use crate::answering::{at_root, refuse, refuse_for};
@@ -23,9 +24,10 @@ use report_text::Line;
 use scenario_read::read_scenario;
 use std::alloc::Global;
 
-/// Audits the report that some bytes hand in behind its scenario.
+/// Audits the report that follows its scenario in some bytes.
 pub fn run_audit<K: Sink>(alloc: Global, bytes: &[u8], sink: &mut K) -> Status
-    ensures ends { (hearing : List Listening) → Writes (AnswersInput Form.Audit (Whole bytes.now) hearing)
+    ensures ends { (hearing : List Listening)
+        → Writes (AnswersInput Form.Audit (Whole bytes.now) hearing)
         (change K.held K.count sink.old sink.new) result }
     ensures later { K.count sink.old ≤ K.count sink.new }
     ensures kept { (result ≡ Status.WriteFault → ⊥) → K.count sink.new ≡ K.count sink.old }
@@ -39,7 +41,8 @@ pub fn run_audit<K: Sink>(alloc: Global, bytes: &[u8], sink: &mut K) -> Status
 /// Audits a report by the bytes of its scenario.
 fn audit_handed<K: Sink>(alloc: Global, handed: &[u8], report: &[u8], sink: &mut K) -> Status
     ensures ends { (bytes : List ℕ) (hearing : List Listening) → Hands bytes handed.now report.now
-        → Writes (AnswersInput Form.Audit (Whole bytes) hearing) (change K.held K.count sink.old sink.new) result }
+        → Writes (AnswersInput Form.Audit (Whole bytes) hearing)
+        (change K.held K.count sink.old sink.new) result }
     ensures later { K.count sink.old ≤ K.count sink.new }
     ensures kept { (result ≡ Status.WriteFault → ⊥) → K.count sink.new ≡ K.count sink.old }
 {
@@ -55,19 +58,20 @@ fn audit_handed<K: Sink>(alloc: Global, handed: &[u8], report: &[u8], sink: &mut
 /// Writes the verdict on a report of a scenario.
 fn give_verdict<K: Sink>(alloc: Global, scenario: &Scenario, report: &[u8], sink: &mut K) -> Status
     requires { IsValidScenario scenario.now }
-    ensures ends { Writes (IsVerdict scenario.now report.now) (change K.held K.count sink.old sink.new) result }
+    ensures ends { Writes (IsVerdict scenario.now report.now)
+        (change K.held K.count sink.old sink.new) result }
     ensures later { K.count sink.old ≤ K.count sink.new }
     ensures kept { (result ≡ Status.WriteFault → ⊥) → K.count sink.new ≡ K.count sink.old }
 {
     match audit(alloc, scenario, report) {
         Ok(None) => finish(sink, AUDIT_YES, Status::Done),
-        Ok(Some(number)) => tell_line(alloc, number, sink),
+        Ok(Some(number)) => report_line(alloc, number, sink),
         Err(NoMemory) => Status::NoMemory,
     }
 }
 
 /// Writes which line does not fit.
-fn tell_line<K: Sink>(alloc: Global, number: u64, sink: &mut K) -> Status
+fn report_line<K: Sink>(alloc: Global, number: u64, sink: &mut K) -> Status
     ensures ends { Writes (Says (verdict_text (Some number)) Status.AuditNo)
         (change K.held K.count sink.old sink.new) result }
     ensures later { K.count sink.old ≤ K.count sink.new }

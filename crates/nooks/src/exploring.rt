@@ -1,4 +1,4 @@
-//! The form that follows every order of a scenario's steps.
+//! The subcommand `explore`, which follows every order of a scenario's steps.
 
 ghost use Rattle.std.specs.Prelude.{◌≡◌, ◌≤◌, List};
 ghost use Rattle.explore_defs.specs.Explored.{IsExplored};
@@ -6,7 +6,8 @@ ghost use Rattle.nook_data.specs.Valid.{IsValidScenario};
 ghost use Rattle.nook_io.specs.Listening.{Listening};
 ghost use Rattle.nooks.specs.Answers.{AnswersInput, IsExploration, IsExploredStatus};
 ghost use Rattle.nooks.specs.Endings.{Writes};
-ghost use Rattle.nooks.specs.Streams.{Whole, change};
+ghost use Rattle.nook_io.specs.Changes.{change};
+ghost use Rattle.nooks.specs.Streams.{Whole};
 ghost use Rattle.order_search.specs.Found.{found_status, found_text};
 
 use crate::answering::refuse_for;
@@ -22,9 +23,10 @@ use report_text::WriteStop;
 use scenario_read::read_scenario;
 use std::alloc::Global;
 
-/// Follows every order of the steps of the scenario of some bytes, and writes a row for each outcome.
+/// Follows every order of the steps of the scenario in some bytes, and writes a row for each outcome.
 pub fn run_explore<K: Sink>(alloc: Global, bytes: &[u8], sink: &mut K) -> Status
-    ensures ends { (hearing : List Listening) → Writes (AnswersInput Form.Explore (Whole bytes.now) hearing)
+    ensures ends { (hearing : List Listening)
+        → Writes (AnswersInput Form.Explore (Whole bytes.now) hearing)
         (change K.held K.count sink.old sink.new) result }
     ensures later { K.count sink.old ≤ K.count sink.new }
     ensures kept { (result ≡ Status.WriteFault → ⊥) → K.count sink.new ≡ K.count sink.old }
@@ -38,7 +40,8 @@ pub fn run_explore<K: Sink>(alloc: Global, bytes: &[u8], sink: &mut K) -> Status
 /// Follows every order of the steps of a scenario, and writes a row for each outcome.
 fn explore_and_write<K: Sink>(alloc: Global, scenario: &Scenario, sink: &mut K) -> Status
     requires { IsValidScenario scenario.now }
-    ensures ends { Writes (IsExploration scenario.now) (change K.held K.count sink.old sink.new) result }
+    ensures ends { Writes (IsExploration scenario.now)
+        (change K.held K.count sink.old sink.new) result }
     ensures later { K.count sink.old ≤ K.count sink.new }
     ensures kept { (result ≡ Status.WriteFault → ⊥) → K.count sink.new ≡ K.count sink.old }
 {
@@ -50,7 +53,8 @@ fn explore_and_write<K: Sink>(alloc: Global, scenario: &Scenario, sink: &mut K) 
 
 /// Writes a row for each outcome that was found.
 fn give_rows<K: Sink>(alloc: Global, found: &Explored, sink: &mut K) -> Status
-    ensures ends { (scenario : Scenario) → IsExplored scenario (found_text found.now) (found_status found.now)
+    ensures ends { (scenario : Scenario)
+        → IsExplored scenario (found_text found.now) (found_status found.now)
         → Writes (IsExploration scenario) (change K.held K.count sink.old sink.new) result }
     ensures later { K.count sink.old ≤ K.count sink.new }
     ensures kept { (result ≡ Status.WriteFault → ⊥) → K.count sink.new ≡ K.count sink.old }
@@ -62,7 +66,7 @@ fn give_rows<K: Sink>(alloc: Global, found: &Explored, sink: &mut K) -> Status
     }
 }
 
-/// The status after what was found is written.
+/// The status after writing what was found.
 fn explored_status(found: &Explored) -> Status
     ensures { IsExploredStatus (found_status found.now) result }
 {

@@ -1,10 +1,10 @@
-//! The form of a generated scenario: it is written as it would be read.
+//! The subcommand that writes a generated scenario, in the form in which it is read.
 
 ghost use Rattle.std.specs.Prelude.{◌≡◌, ◌≤◌, IfOk};
 ghost use Rattle.run_defs.specs.Generated.{generated};
 ghost use Rattle.nooks.specs.Answers.{Says};
 ghost use Rattle.nooks.specs.Endings.{Writes};
-ghost use Rattle.nooks.specs.Streams.{change};
+ghost use Rattle.nook_io.specs.Changes.{change};
 ghost use Rattle.scenario_write.specs.ScenarioText.{scenario_line};
 
 use crate::program::{Status, finish};

@@ -1,4 +1,4 @@
-//! The forms of a guard: each driver is stopped before it breaks its class's contract.
+//! The subcommands of a guard: each driver is stopped before it breaks its class's contract.
 
 ghost use Rattle.std.specs.Prelude.{◌≡◌, ◌≤◌, ◌++◌, List, All, IfOk, OnOk, length, map};
 ghost use Rattle.guard_defs.specs.Guard.{HasRoom};
@@ -9,9 +9,11 @@ ghost use Rattle.nooks.specs.Answers.{AnswersInput, IsGuardReport, IsGuardedLine
 ghost use Rattle.nooks.specs.Endings.{Writes};
 ghost use Rattle.nooks.specs.Guardable.{first_without_room, guardable_from, has_room, no_room};
 ghost use Rattle.nooks.specs.Making.{IsGuardMade};
-ghost use Rattle.nooks.specs.Streams.{Whole, change};
+ghost use Rattle.nook_io.specs.Changes.{change};
+ghost use Rattle.nooks.specs.Streams.{Whole};
 ghost use Rattle.report_defs.specs.ReportText.{report_text};
-ghost use Rattle.report_text.specs.Whole.{IsReport, lists_of, report_rows};
+ghost use Rattle.report_text.specs.Whole.{report_rows};
+ghost use Rattle.run_results.specs.Reports.{IsReport, lists_of};
 ghost use Rattle.report_text.specs.Writing.{Wrote};
 ghost use Rattle.request_taps.specs.Bus.{seen, settled};
 ghost use Rattle.scenario_read.specs.Gives.{Gives};
@@ -30,8 +32,9 @@ use nook_data::lists::Words8;
 use nook_data::memory::NoMemory;
 use nook_data::scenario::{PartSpec, Scenario};
 use nook_io::outside::{Listener, Sink};
-use report_text::{Line, Report, WriteStop, push_number, write_report, write_text};
+use report_text::{Line, WriteStop, push_number, write_report, write_text};
 use request_taps::Bus;
+use run_results::Report;
 use scenario_read::{ScenarioFault, read_scenario};
 use scenario_write::write_scenario_line;
 use std::alloc::Global;
@@ -43,7 +46,7 @@ struct GuardReport {
     report: Report,
 }
 
-/// Guards the scenario of some bytes, simulates the guarded one, and writes the traps and the report.
+/// Guards the scenario in some bytes, simulates the guarded one, and writes the traps and the report.
 pub fn run_guard<K: Sink, T: Drop>(
     alloc: Global,
     bytes: &[u8],
@@ -64,9 +67,10 @@ where
     }
 }
 
-/// Guards the scenario of some bytes, and writes the guarded one.
+/// Guards the scenario in some bytes, and writes the guarded one.
 pub fn run_guard_scenario<K: Sink>(alloc: Global, bytes: &[u8], sink: &mut K) -> Status
-    ensures ends { (hearing : List Listening) → Writes (AnswersInput Form.GuardScenario (Whole bytes.now) hearing)
+    ensures ends { (hearing : List Listening)
+        → Writes (AnswersInput Form.GuardScenario (Whole bytes.now) hearing)
         (change K.held K.count sink.old sink.new) result }
     ensures later { K.count sink.old ≤ K.count sink.new }
     ensures kept { (result ≡ Status.WriteFault → ⊥) → K.count sink.new ≡ K.count sink.old }
@@ -77,7 +81,7 @@ pub fn run_guard_scenario<K: Sink>(alloc: Global, bytes: &[u8], sink: &mut K) ->
     }
 }
 
-/// The scenario of some bytes, each part of which has room for the traps that its guard may need.
+/// The scenario in some bytes, each part of which has room for the traps that its guard may need.
 fn read_guardable(alloc: Global, bytes: &[u8]) -> Result<Scenario, ScenarioFault>
     ensures gives { Gives result (guardable_from bytes.now) }
     ensures valid { IfOk result IsValidScenario }
@@ -85,27 +89,27 @@ fn read_guardable(alloc: Global, bytes: &[u8]) -> Result<Scenario, ScenarioFault
 {
     let scenario = read_scenario(alloc, bytes)?;
     match first_without_room(scenario.parts.as_slice()) {
-        Some(place) => Err(ScenarioFault::Bad(no_room(alloc, place)?)),
+        Some(index) => Err(ScenarioFault::Bad(no_room(alloc, index)?)),
         None => Ok(scenario),
     }
 }
 
-/// The place of the first part that has no room.
+/// The index of the first part that has no room.
 fn first_without_room(parts: &[PartSpec]) -> Option<u32>
     requires { length parts.now ≤ MOST_PARTS }
     ensures { result ≡ first_without_room 0 parts.now }
 {
-    let mut place = 0;
+    let mut index = 0;
     for part in parts {
         if !has_room(part) {
-            return Some(place);
+            return Some(index);
         }
-        place += 1;
+        index += 1;
     }
     None
 }
 
-/// Whether a part has room for a trap at each failure, of which there are at most one more than its limit.
+/// Whether a part has room for a trap at each failure; there is at most one more failure than its limit.
 fn has_room(part: &PartSpec) -> bool
     ensures { result ≡ has_room part.now }
 {
@@ -113,13 +117,13 @@ fn has_room(part: &PartSpec) -> bool
     (part.limit as usize) < free
 }
 
-/// Why a scenario is refused in which the part at a place is the first without room.
-fn no_room(alloc: Global, place: u32) -> Result<Refusal, NoMemory>
-    ensures { IfOk result (λ refusal. refusal ≡ no_room place) }
+/// Why a scenario is refused if the part at an index is the first without room.
+fn no_room(alloc: Global, index: u32) -> Result<Refusal, NoMemory>
+    ensures { IfOk result (λ refusal. refusal ≡ no_room index) }
 {
     let mut path = Path::new(alloc);
     path.push(PathStep::At(Key::Parts))?;
-    path.push(PathStep::Place(place))?;
+    path.push(PathStep::Position(index))?;
     path.push(PathStep::At(Key::Faults))?;
     Ok(Refusal {
         fault: InputFault::TooMany,
@@ -159,8 +163,10 @@ fn guard_and_report<K: Sink, L: Listener>(
 ) -> Status
     requires valid { IsValidScenario scenario.now }
     requires room { All HasRoom scenario.now.parts }
-    ensures ends { (hearing : List Listening) → map (seen L.listening) taps.old ≡ map settled hearing
-        → Writes (IsGuardReport scenario.now hearing) (change K.held K.count sink.old sink.new) result }
+    ensures ends { (hearing : List Listening)
+        → map (seen L.listening) taps.old ≡ map settled hearing
+        → Writes (IsGuardReport scenario.now hearing)
+        (change K.held K.count sink.old sink.new) result }
     ensures later { K.count sink.old ≤ K.count sink.new }
     ensures kept { (result ≡ Status.WriteFault → ⊥) → K.count sink.new ≡ K.count sink.old }
 {
@@ -170,8 +176,8 @@ fn guard_and_report<K: Sink, L: Listener>(
     }
 }
 
-/// Guards a scenario, simulates the guarded one over a bus of listeners, and sums that run up. The runs in which the
-/// traps are found are heard by nobody.
+/// Guards a scenario, simulates the guarded one over a bus of listeners, and sums that run up. No one hears the runs in
+/// which the traps are found.
 fn judge_guarded<L: Listener>(
     alloc: Global,
     scenario: &Scenario,
@@ -202,18 +208,19 @@ fn give_guard_report<K: Sink>(alloc: Global, made: &GuardReport, sink: &mut K) -
     }
 }
 
-/// Writes a line for each trap, and behind them the report.
+/// Writes a line for each trap, and then the report.
 fn write_guard_report<K: Sink>(
     alloc: Global,
     guarded: &Guarded,
     report: &Report,
     sink: &mut K,
 ) -> Result<(), WriteStop>
-    ensures rows { Wrote (K.held sink.old) (K.held sink.new) (K.count sink.old) (K.count sink.new) result
+    ensures rows { Wrote (change K.held K.count sink.old sink.new) result
         (guard_lines guarded.now.stops ++ report_rows guarded.now.scenario report.now) }
     ensures text { IsReport guarded.now.scenario report.now
-        → Wrote (K.held sink.old) (K.held sink.new) (K.count sink.old) (K.count sink.new) result
-        (guard_lines guarded.now.stops ++ report_text guarded.now.scenario (lists_of report.now.run.journals)
+        → Wrote (change K.held K.count sink.old sink.new) result
+        (guard_lines guarded.now.stops
+        ++ report_text guarded.now.scenario (lists_of report.now.run.journals)
         report.now.run.answers report.now.run.taps report.now.status) }
 {
     write_guard_lines(alloc, guarded.stops.as_slice(), sink)?;
@@ -222,8 +229,7 @@ fn write_guard_report<K: Sink>(
 
 /// Writes a line for each trap.
 fn write_guard_lines<K: Sink>(alloc: Global, stops: &[Stop], sink: &mut K) -> Result<(), WriteStop>
-    ensures { Wrote (K.held sink.old) (K.held sink.new) (K.count sink.old) (K.count sink.new) result
-        (guard_lines stops.now) }
+    ensures { Wrote (change K.held K.count sink.old sink.new) result (guard_lines stops.now) }
 {
     let mut lines = Line::new(alloc);
     push_guard_lines(&mut lines, stops)?;
@@ -240,7 +246,7 @@ fn push_guard_lines(lines: &mut Line, stops: &[Stop]) -> Result<(), NoMemory>
     Ok(())
 }
 
-/// Adds the line of a trap: its part, its burst, the turns before it, and the clause that would have been broken.
+/// Adds the line of a trap: its part, its burst, the instructions before it, and the clause that it protects.
 fn push_guard_line(line: &mut Line, stop: &Stop) -> Result<(), NoMemory>
     ensures { OnOk result (line.new ≡ line.old ++ guard_line stop.now) }
 {

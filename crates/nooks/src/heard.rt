@@ -1,4 +1,4 @@
-//! Listeners of any kind as listeners of one type, so that all below the program's call is written for any listener.
+//! Listeners of any kind as listeners of one type, so that everything below the program's call handles any listener.
 
 ghost use Rattle.std.specs.Prelude.{◌≡◌, map, IfOk};
 

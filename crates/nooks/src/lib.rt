@@ -1,7 +1,7 @@
-//! The program `nooks` as one call, [`run`], over its words, a source and a sink.
+//! The program `nooks` as one call, [`run`], over its arguments, a source and a sink.
 //!
-//! Another program links this crate and hands in its own source, sink, listeners and gate: the call does what the
-//! program does over standard input and output, and tells how it ended by a [`Status`].
+//! Another program links this crate and passes in its own source, sink, listeners and gate. The call does what the
+//! program does over standard input and output, and returns a [`Status`] that says how it ended.
 #![tactic(auto)]
 
 mod answering;

@@ -1,10 +1,11 @@
-//! The form of a listing: which line of an assembler text made which word.
+//! The subcommand that writes a listing: which line of an assembler text made which word.
 
 ghost use Rattle.std.specs.Prelude.{◌≡◌, ◌≤◌, List};
 ghost use Rattle.nook_io.specs.Listening.{Listening};
 ghost use Rattle.nooks.specs.Answers.{AnswersInput, listing_from};
 ghost use Rattle.nooks.specs.Endings.{Writes};
-ghost use Rattle.nooks.specs.Streams.{Whole, change};
+ghost use Rattle.nook_io.specs.Changes.{change};
+ghost use Rattle.nooks.specs.Streams.{Whole};
 ghost use Rattle.scenario_read.specs.Gives.{Gives};
 
 use crate::answering::{at_root, refuse_for};
@@ -21,7 +22,8 @@ use std::alloc::Global;
 
 /// Writes the listing of an assembler text.
 pub fn run_list<K: Sink>(alloc: Global, bytes: &[u8], sink: &mut K) -> Status
-    ensures ends { (hearing : List Listening) → Writes (AnswersInput Form.List (Whole bytes.now) hearing)
+    ensures ends { (hearing : List Listening)
+        → Writes (AnswersInput Form.List (Whole bytes.now) hearing)
         (change K.held K.count sink.old sink.new) result }
     ensures later { K.count sink.old ≤ K.count sink.new }
     ensures kept { (result ≡ Status.WriteFault → ⊥) → K.count sink.new ≡ K.count sink.old }

@@ -1,4 +1,4 @@
-//! The form of a mirror: one disk that a scenario's thread reads and writes, kept by the drivers of two parts.
+//! The subcommand `mirror`: one disk that a scenario's thread reads and writes, kept by the drivers of two parts.
 
 ghost use Rattle.std.specs.Prelude.{◌≡◌, ◌==◌, ◌≤◌, ℕ, true, List, Ok, IfOk, if◌then◌else◌, map};
 ghost use Rattle.std.specs.List.{list_any};
@@ -9,8 +9,9 @@ ghost use Rattle.nook_data.specs.Valid.{IsValidScenario};
 ghost use Rattle.nooks.specs.Answers.{AnswersInput, IsMirrored};
 ghost use Rattle.nooks.specs.Endings.{Writes};
 ghost use Rattle.nooks.specs.Making.{IsMirrorMade};
-ghost use Rattle.nooks.specs.Streams.{Whole, change};
-ghost use Rattle.report_text.specs.Statuses.{status_number};
+ghost use Rattle.nook_io.specs.Changes.{change};
+ghost use Rattle.nooks.specs.Streams.{Whole};
+ghost use Rattle.run_results.specs.Statuses.{status_number};
 ghost use Rattle.request_taps.specs.Bus.{seen, settled};
 
 use crate::answering::{bus_of, refuse_for};
@@ -24,8 +25,9 @@ use nook_data::memory::NoMemory;
 use nook_data::mirror::{MirrorAnswer, MirrorAnswers};
 use nook_data::scenario::Scenario;
 use nook_io::outside::{Listener, Sink};
-use report_text::{Report, ReportStatus, WriteStop, report_of, write_mirror_report};
+use report_text::{WriteStop, write_mirror_report};
 use request_taps::Bus;
+use run_results::{Report, ReportStatus, report_of};
 use scenario_read::read_scenario;
 use std::alloc::Global;
 use std::sync::Wait;
@@ -38,7 +40,7 @@ struct MirrorReport {
     status: u32,
 }
 
-/// Serves the mirror of the scenario of some bytes and writes the report.
+/// Serves the mirror of the scenario in some bytes and writes the report.
 pub fn serve_bytes<R: Wait, K: Sink, T: Drop>(
     rt: &R,
     alloc: Global,
@@ -87,7 +89,7 @@ where
     }
 }
 
-/// Serves the mirror of a scenario, tells a bus of listeners of the run, and writes the report.
+/// Serves the mirror of a scenario, lets a bus of listeners hear the run, and writes the report.
 fn serve_and_report<R: Wait, K: Sink, L: Listener>(
     rt: &R,
     alloc: Global,
@@ -97,8 +99,10 @@ fn serve_and_report<R: Wait, K: Sink, L: Listener>(
 ) -> Status
     requires valid { IsValidScenario scenario.now }
     requires served { is_mirror scenario.now ≡ true }
-    ensures ends { (hearing : List Listening) → map (seen L.listening) taps.old ≡ map settled hearing
-        → Writes (IsMirrored scenario.now hearing) (change K.held K.count sink.old sink.new) result }
+    ensures ends { (hearing : List Listening)
+        → map (seen L.listening) taps.old ≡ map settled hearing
+        → Writes (IsMirrored scenario.now hearing)
+        (change K.held K.count sink.old sink.new) result }
     ensures later { K.count sink.old ≤ K.count sink.new }
     ensures kept { (result ≡ Status.WriteFault → ⊥) → K.count sink.new ≡ K.count sink.old }
 {
@@ -108,7 +112,7 @@ fn serve_and_report<R: Wait, K: Sink, L: Listener>(
     }
 }
 
-/// Serves the mirror of a scenario, tells a bus of listeners of the run, and sums it up.
+/// Serves the mirror of a scenario, lets a bus of listeners hear the run, and sums it up.
 fn judge_mirror<R: Wait, L: Listener>(
     rt: &R,
     alloc: Global,
@@ -118,7 +122,8 @@ fn judge_mirror<R: Wait, L: Listener>(
     requires valid { IsValidScenario scenario.now }
     requires served { is_mirror scenario.now ≡ true }
     ensures { (hearing : List Listening) → map (seen L.listening) taps.old ≡ map settled hearing
-        → IfOk result (λ made. IsMirrorMade scenario.now hearing made.report made.answers made.status) }
+        → IfOk result (λ made. IsMirrorMade scenario.now hearing made.report made.answers
+        made.status) }
 {
     let mirrored = run_mirror(rt, alloc, scenario, taps)?;
     let report = report_of(alloc, scenario, mirrored.whole.run, mirrored.whole.ends)?;
@@ -139,7 +144,8 @@ fn give_mirror_report<K: Sink>(
 ) -> Status
     ensures ends { (hearing : List Listening)
         → IsMirrorMade scenario.now hearing made.now.report made.now.answers made.now.status
-        → Writes (IsMirrored scenario.now hearing) (change K.held K.count sink.old sink.new) result }
+        → Writes (IsMirrored scenario.now hearing)
+        (change K.held K.count sink.old sink.new) result }
     ensures later { K.count sink.old ≤ K.count sink.new }
     ensures kept { (result ≡ Status.WriteFault → ⊥) → K.count sink.new ≡ K.count sink.old }
 {
@@ -157,22 +163,23 @@ fn give_mirror_report<K: Sink>(
     }
 }
 
-/// The status of a mirror whose report would end with this number, if both parts were apart.
+/// The status of a mirror; a report of its two parts apart would end with this number.
 fn mirror_status(apart: u32, answers: &[MirrorAnswer]) -> ReportStatus
-    ensures { status_number result ≡ (if apart == 7 then 7 else if list_any is_lost answers.now then 1 else 0) }
+    ensures { status_number result
+        ≡ (if apart == 7 then 7 else if list_any is_lost answers.now then 1 else 0) }
 {
     let is_broken = apart == ReportStatus::Broken.number();
     ReportStatus::of(is_broken, is_any_lost(answers))
 }
 
-/// Whether neither side was left at one of the answers.
+/// Whether both sides were lost at one of the answers.
 fn is_any_lost(answers: &[MirrorAnswer]) -> bool
     ensures { result ≡ list_any is_lost answers.now }
 {
     answers.iter().any(|answer| is_lost(answer))
 }
 
-/// Whether neither side was left.
+/// Whether both sides were lost.
 fn is_lost(answer: &MirrorAnswer) -> bool
     ensures { result ≡ is_lost answer.now }
 {

@@ -7,7 +7,8 @@ ghost use Rattle.nooks.specs.Endings.{AnswersBytes, AnswersWords, AskGuard, AskR
 ghost use Rattle.nooks.specs.Endings.{IsAnswerStatus, IsBegun, IsCut, IsKeptReport, IsSafeReport, IsWritten, TakesFor};
 ghost use Rattle.nooks.specs.Endings.{Writes, code_of};
 ghost use Rattle.command_forms.specs.Forms.{AskAlone, AskUnread, is_alone, is_reading, limit_of};
-ghost use Rattle.nooks.specs.Streams.{GainsNothing, change};
+ghost use Rattle.nook_io.specs.Changes.{change};
+ghost use Rattle.nooks.specs.Streams.{GainsNothing};
 
 use crate::answering::read_and_answer;
 use crate::generating::give_generated;
@@ -24,7 +25,7 @@ use std::alloc::Global;
 use std::sync::Wait;
 use std::thread::Threads;
 
-/// The most bytes of an input, and of the scenario that is handed in for an audit.
+/// The most bytes of an input, and of the scenario of an audit.
 pub const LIMIT: u32 = 1_048_576;
 
 /// The most bytes of the input of `audit`: a scenario's length, the scenario and a report.
@@ -33,27 +34,27 @@ pub const AUDIT_LIMIT: u32 = 16_777_216;
 /// How the program ended. The exit codes are 0 to 9, in this order.
 #[derive(Clone, Copy, Debug, PartialEq, Eq)]
 pub enum Status {
-    /// What the words ask for was written; if it is a report, no part was given up, or one of a mirror's two. Of every
-    /// order of the steps: all were followed, and none gives a part up or breaks a contract.
+    /// What the arguments ask for was written; if it is a report, no part was given up, or one of a mirror's two. If
+    /// every order of the steps was asked for, all were followed, and none gives a part up or breaks a contract.
     Done,
-    /// A report was written, and a part was given up; of a mirror: neither of its disks was left. Of every order of the
-    /// steps: all were followed, some gives a part up, and none breaks a contract.
+    /// A report was written, and a part was given up; for a mirror, both disks were lost. If every order of the steps
+    /// was asked for, all were followed, some order gives a part up, and none breaks a contract.
     GivenUp,
-    /// The words are of no form.
+    /// No subcommand has these arguments.
     Usage,
     /// The input was refused, with the line that says why.
     BadInput,
     /// The source failed; nothing was written.
     ReadFault,
-    /// The sink failed; it has gained a front of the output.
+    /// The sink failed; it has gained a prefix of the output.
     WriteFault,
-    /// Memory was wanting; the sink has gained a front of the output, or nothing.
+    /// Memory ran out; the sink has gained a prefix of the output, or nothing.
     NoMemory,
     /// A report was written, and a part's driver broke its class's contract; or some order of the steps breaks one.
     ContractBroken,
-    /// A line of the report that was handed in does not fit its scenario; the line that was written says which.
+    /// A line of the audited report does not fit its scenario; the line that was written says which.
     AuditNo,
-    /// Not every order of the steps was followed, since there are too many states; none that was breaks a contract.
+    /// There were too many states to follow every order of the steps; none of those followed breaks a contract.
     Cut,
 }
 
@@ -66,22 +67,22 @@ impl Status {
     }
 }
 
-/// Does what the words ask for: reads the source, writes the sink, and tells how it ended. Usage is decided
-/// first, and reads nothing; then comes a fault of the source, then one of the input, then one of the sink.
+/// Does what the arguments ask for: reads the source, writes the sink, and returns how it ended. Usage is decided
+/// first, and reads nothing; then come failures of the source, then input errors, then failures of the sink.
 ///
-/// Where it wrote a report, that is the report of the scenario's scheduled run or, for `run threads`, of its threads,
-/// which the gate may hold back: whatever the drivers executed and in whatever order the steps fell, each part's
-/// journal is a run of the part in which no driver changed a kernel object that was not lent to it; and in each part
+/// If it wrote a report, that is the report of the scenario's scheduled run or, for `run threads`, of its threads,
+/// which the gate may hold back. Whatever the drivers executed and in whatever order the steps occurred, each part's
+/// journal is a run of the part in which no driver changed a kernel object that was not lent to it. In each part
 /// whose drivers kept the class's contract and that was not given up, the applications saw one run of a device that
 /// never fails.
 ///
-/// Where it wrote the report of `guard`, that is the report of the guarded run: no driver broke its class's contract in
+/// If it wrote the report of `guard`, that is the report of the guarded run: no driver broke its class's contract in
 /// it, so that each part that was not given up is a device that never fails, with no condition on its drivers.
 ///
-/// Where it wrote the rows of `explore`, these are the outcomes of all orders in which the steps can fall; with the
+/// If it wrote the rows of `explore`, these are the outcomes of all orders in which the steps can occur; with the
 /// status [`Status::Done`] or [`Status::GivenUp`] no schedule of that scenario breaks a contract.
 ///
-/// It waits where the words ask for threads or for a mirror; all else is [`run_alone`], which returns.
+/// It waits if the arguments ask for threads or for a mirror; all else is [`run_alone`], which returns.
 pub fn run<R: Threads + Wait + Sync, S: Source, K: Sink, G: Gate>(
     rt: &R,
     alloc: Global,
@@ -91,8 +92,8 @@ pub fn run<R: Threads + Wait + Sync, S: Source, K: Sink, G: Gate>(
     listeners: Vec<Box<dyn Listener>>,
     gate: &G,
 ) -> Status
-    // what the program answers to the words over what was read of the source was written; after a
-    // fault of the sink, or want of memory, a front of it, or nothing
+    // what the program answers to the arguments, given what was read of the source, was written; if
+    // the sink fails or memory runs out, a prefix of it was written, or nothing
     ensures written { let read = change S.left S.count source.old source.new in
         let hearing = map (λ b. (⟦<dyn Listener as Listener>⟧ b.vtable).listening b.value)
         listeners.items in
@@ -110,24 +111,24 @@ pub fn run<R: Threads + Wait + Sync, S: Source, K: Sink, G: Gate>(
     ensures guarded { AskGuard (map string_bytes words.now) → HasReport result
         → IsWritten (IsKeptReport (change S.left S.count source.old source.new))
         (change K.held K.count sink.old sink.new) result }
-    // a fault ends the call and is told exactly where there was one: with every other status the
-    // count of faults is as it was
+    // an I/O error ends the call and is reported exactly if there was one: with every other status
+    // the error count is as it was
     ensures read_fault { (result ≡ Status.ReadFault
         → Rose (S.count source.old) (S.count source.new) × (sink.new ≡ sink.old))
         × ((result ≡ Status.ReadFault → ⊥) → S.count source.new ≡ S.count source.old) }
     ensures write_fault { (result ≡ Status.WriteFault
         → Rose (K.count sink.old) (K.count sink.new))
         × ((result ≡ Status.WriteFault → ⊥) → K.count sink.new ≡ K.count sink.old) }
-    // where neither failed, there is no other end but want of memory
+    // if neither failed, the only other end is that memory runs out
     ensures complete { (Rose (S.count source.old) (S.count source.new) → ⊥)
         → (Rose (K.count sink.old) (K.count sink.new) → ⊥)
         → IsAnswerStatus result ⊎ (result ≡ Status.NoMemory) }
-    // however it ended, at most one byte more than the limit was taken of the source, and none for
-    // words that ask for no input
+    // however it ended, at most one byte more than the limit was taken from the source, and none for
+    // arguments that ask for no input
     ensures taken { TakesFor (map string_bytes words.now)
         (change S.left S.count source.old source.new) }
     ensures unread { AskUnread (map string_bytes words.now) → source.new ≡ source.old }
-    // counts of faults never fall
+    // error counts never fall
     ensures later { (S.count source.old ≤ S.count source.new)
         × (K.count sink.old ≤ K.count sink.new) }
 {
@@ -137,8 +138,8 @@ pub fn run<R: Threads + Wait + Sync, S: Source, K: Sink, G: Gate>(
     }
 }
 
-/// What [`run`] does for words that ask for nothing that waits: it returns. `campaign` alone starts threads, and joins
-/// them.
+/// What [`run`] does for arguments that ask for nothing that waits: it returns. Only `campaign` starts threads, and
+/// joins them.
 pub fn run_alone<R: Threads + Sync, S: Source, K: Sink>(
     rt: &R,
     alloc: Global,
@@ -163,8 +164,8 @@ pub fn run_alone<R: Threads + Sync, S: Source, K: Sink>(
     }
 }
 
-/// [`run`] over bytes in memory and a sink that takes everything, neither of which ever fails: where there is memory,
-/// the status is that of what the program answers to the words over these bytes.
+/// [`run`] over bytes in memory and a sink that takes everything, neither of which ever fails: unless memory runs out,
+/// the status is that of the program's answer to the arguments with these bytes as input.
 pub fn run_plain<R: Threads + Wait + Sync, G: Gate>(
     rt: &R,
     alloc: Global,
@@ -183,7 +184,7 @@ pub fn run_plain<R: Threads + Wait + Sync, G: Gate>(
     run(rt, alloc, words, &mut source, &mut sink, listeners, gate)
 }
 
-/// The same for words that ask for nothing that waits: it returns.
+/// The same for arguments that ask for nothing that waits: it returns.
 pub fn run_alone_plain<R: Threads + Sync>(
     rt: &R,
     alloc: Global,
@@ -202,7 +203,7 @@ pub fn run_alone_plain<R: Threads + Sync>(
     run_alone(rt, alloc, words, &mut source, &mut sink, listeners)
 }
 
-/// Does what a form asks for that waits for nobody.
+/// Does what a subcommand asks for that waits for no one.
 fn run_form<R: Threads + Sync, S: Source, K: Sink, T: Drop>(
     rt: &R,
     alloc: Global,
@@ -218,13 +219,15 @@ where
     requires scenario { (number : ℕ) → asked ≡ Form.GenScenario number → number ≤ 256 }
     ensures ends { Ends (Some asked)
         (map (λ v. ⟦<Heard<T> as Listener>⟧.listening (record { value = v })) listeners.items)
-        (change S.left S.count source.old source.new) (change K.held K.count sink.old sink.new) result }
+        (change S.left S.count source.old source.new)
+        (change K.held K.count sink.old sink.new) result }
     ensures unwritten { result ≡ Status.ReadFault → sink.new ≡ sink.old }
     ensures unread { IsTrue (is_reading asked) ⊎ (source.new ≡ source.old) }
     ensures taken { TakesAtMost (S.left source.old) (S.left source.new) (limit_of asked + 1) }
     ensures source_later { S.count source.old ≤ S.count source.new }
     ensures sink_later { K.count sink.old ≤ K.count sink.new }
-    ensures source_kept { (result ≡ Status.ReadFault → ⊥) → S.count source.new ≡ S.count source.old }
+    ensures source_kept { (result ≡ Status.ReadFault → ⊥)
+        → S.count source.new ≡ S.count source.old }
     ensures sink_kept { (result ≡ Status.WriteFault → ⊥) → K.count sink.new ≡ K.count sink.old }
 {
     match asked {
@@ -246,7 +249,7 @@ where
     }
 }
 
-/// Writes a text and ends with a status of its answer, or with a fault of the sink.
+/// Writes a text and ends with the status of its answer, or with an I/O error of the sink.
 pub fn finish<K: Sink>(sink: &mut K, text: &[u8], status: Status) -> Status
     requires { IsAnswerStatus status }
     ensures ends { Writes (Says text.now status) (change K.held K.count sink.old sink.new) result }

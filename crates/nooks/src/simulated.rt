@@ -1,4 +1,4 @@
-//! Whole runs: a scenario is simulated, judged, and told of.
+//! Whole runs: a scenario is simulated, judged, and reported.
 
 ghost use Rattle.std.specs.Prelude.{◌≡◌, ◌^◌, ◌<◌, ◌≤◌, List, [], IfOk, length, map};
 ghost use Rattle.run_defs.specs.Generated.{generated};
@@ -8,12 +8,12 @@ ghost use Rattle.report_defs.specs.ReportText.{gen_line, summary_line};
 ghost use Rattle.nook_data.specs.Valid.{IsValidScenario};
 ghost use Rattle.nooks.specs.Answers.{IsReported, IsSummary};
 ghost use Rattle.nooks.specs.Endings.{Writes};
-ghost use Rattle.nooks.specs.Making.{IsMade, TellsStatus};
-ghost use Rattle.nooks.specs.Streams.{change};
-ghost use Rattle.report_text.specs.Statuses.{status_number};
-ghost use Rattle.report_text.specs.Whole.{failures_in};
+ghost use Rattle.nooks.specs.Making.{IsMade, ReportsStatus};
+ghost use Rattle.nook_io.specs.Changes.{change};
+ghost use Rattle.run_results.specs.Statuses.{status_number};
+ghost use Rattle.run_results.specs.Reports.{failures_in};
 ghost use Rattle.request_taps.specs.Bus.{seen, settled};
-ghost use Rattle.run_ends.specs.Journals.{events_in};
+ghost use Rattle.run_results.specs.Journals.{events_in};
 
 use crate::program::Status;
 use command_forms::Form;
@@ -23,10 +23,9 @@ use nook_data::memory::NoMemory;
 use nook_data::scenario::Scenario;
 use nook_io::listeners::CountListener;
 use nook_io::outside::{Gate, Listener, Sink};
-use report_text::{
-    PartReport, Report, ReportStatus, Summary, WriteStop, report_of, write_report, write_summary,
-};
+use report_text::{Summary, WriteStop, write_report, write_summary};
 use request_taps::Bus;
+use run_results::{PartReport, Report, ReportStatus, report_of};
 use scenario_gen::generate;
 use sim_run::simulate;
 use std::alloc::Global;
@@ -42,8 +41,10 @@ pub fn simulate_and_report<K: Sink, L: Listener>(
     taps: &mut Bus<L>,
 ) -> Status
     requires { IsValidScenario scenario.now }
-    ensures ends { (hearing : List Listening) → map (seen L.listening) taps.old ≡ map settled hearing
-        → Writes (IsReported Form.Run scenario.now hearing) (change K.held K.count sink.old sink.new) result }
+    ensures ends { (hearing : List Listening)
+        → map (seen L.listening) taps.old ≡ map settled hearing
+        → Writes (IsReported Form.Run scenario.now hearing)
+        (change K.held K.count sink.old sink.new) result }
     ensures later { K.count sink.old ≤ K.count sink.new }
     ensures kept { (result ≡ Status.WriteFault → ⊥) → K.count sink.new ≡ K.count sink.old }
 {
@@ -53,7 +54,7 @@ pub fn simulate_and_report<K: Sink, L: Listener>(
     }
 }
 
-/// Runs the threads of a scenario, tells a bus of listeners of the run, and writes the report.
+/// Runs the threads of a scenario, lets a bus of listeners hear the run, and writes the report.
 pub fn run_threads_and_report<R: Threads + Wait + Sync, K: Sink, L: Listener, G: Gate>(
     rt: &R,
     alloc: Global,
@@ -63,8 +64,10 @@ pub fn run_threads_and_report<R: Threads + Wait + Sync, K: Sink, L: Listener, G:
     gate: &G,
 ) -> Status
     requires { IsValidScenario scenario.now }
-    ensures ends { (hearing : List Listening) → map (seen L.listening) taps.old ≡ map settled hearing
-        → Writes (IsReported Form.RunThreads scenario.now hearing) (change K.held K.count sink.old sink.new) result }
+    ensures ends { (hearing : List Listening)
+        → map (seen L.listening) taps.old ≡ map settled hearing
+        → Writes (IsReported Form.RunThreads scenario.now hearing)
+        (change K.held K.count sink.old sink.new) result }
     ensures later { K.count sink.old ≤ K.count sink.new }
     ensures kept { (result ≡ Status.WriteFault → ⊥) → K.count sink.new ≡ K.count sink.old }
 {
@@ -76,8 +79,10 @@ pub fn run_threads_and_report<R: Threads + Wait + Sync, K: Sink, L: Listener, G:
 
 /// Writes the report of a scenario's run.
 fn give_report<K: Sink>(alloc: Global, scenario: &Scenario, report: &Report, sink: &mut K) -> Status
-    ensures ends { (asked : Form) (hearing : List Listening) → IsMade asked scenario.now hearing report.now
-        → Writes (IsReported asked scenario.now hearing) (change K.held K.count sink.old sink.new) result }
+    ensures ends { (asked : Form) (hearing : List Listening)
+        → IsMade asked scenario.now hearing report.now
+        → Writes (IsReported asked scenario.now hearing)
+        (change K.held K.count sink.old sink.new) result }
     ensures later { K.count sink.old ≤ K.count sink.new }
     ensures kept { (result ≡ Status.WriteFault → ⊥) → K.count sink.new ≡ K.count sink.old }
 {
@@ -102,7 +107,7 @@ pub fn judge_run<L: Listener>(
     report_of(alloc, scenario, whole.run, whole.ends)
 }
 
-/// Runs the threads of a scenario, tells a bus of listeners of the run, and sums it up.
+/// Runs the threads of a scenario, lets a bus of listeners hear the run, and sums it up.
 fn judge_threads<R: Threads + Wait + Sync, L: Listener, G: Gate>(
     rt: &R,
     alloc: Global,
@@ -120,7 +125,7 @@ fn judge_threads<R: Threads + Wait + Sync, L: Listener, G: Gate>(
 
 /// The status after a report that ends with this number.
 pub fn status_of(number: u32) -> Status
-    ensures { TellsStatus number result }
+    ensures { ReportsStatus number result }
 {
     match ReportStatus::of_number(number) {
         Some(ReportStatus::Kept) => Status::Done,
@@ -157,7 +162,7 @@ fn generate_report(alloc: Global, number: u32) -> Result<Report, NoMemory>
     judge_run(alloc, &scenario, &mut unheard)
 }
 
-/// What the line of a generated scenario tells of its report.
+/// What the line of a generated scenario says of its report.
 fn sum_up(number: u32, report: &Report) -> Summary
     requires number { number ≤ 256 }
     requires made { IsMade Form.Run (generated number) [] report.now }

@@ -1,10 +1,10 @@
 //! The texts that are the same in every run.
 
-/// What is written where the words are of no form.
+/// What is written if no subcommand has the arguments.
 pub const USAGE: &[u8] =
     b"usage: nooks run | run threads | asm | dis | gen N | audit | campaign | mirror\n";
 
-/// What `--help` writes: a line for each form of words, and one for each status.
+/// What `--help` writes: a line for each subcommand, and one for each status.
 pub const HELP: &[u8] = b"\
 nooks run             read a scenario, simulate it, write the report\n\
 nooks run threads     the same, each thread of the scenario as a thread of its own\n\
@@ -33,16 +33,16 @@ status 7              a driver broke its class's contract\n\
 status 8              a line of the report does not fit the scenario\n\
 status 9              not every order was followed: too many states\n";
 
-/// What is said of the input of `audit` that does not begin with a length, or has fewer bytes.
+/// What is written for an input of `audit` that does not begin with a length, or has fewer bytes.
 pub const BAD_HEADER: &[u8] = b"fault 12 bad_header /\n";
 
-/// What is said of a scenario that a mirror does not serve.
+/// What is written for a scenario that a mirror does not serve.
 pub const NOT_MIRROR: &[u8] = b"fault 13 not_mirror /\n";
 
-/// What is said of a scenario whose run has no such part or burst.
+/// What is written for a scenario whose run has no such part or burst.
 pub const NO_SUCH_BURST: &[u8] = b"fault 14 no_such_burst /\n";
 
-/// What is said of a report of which every line fits.
+/// What is written for a report whose lines all fit.
 pub const AUDIT_YES: &[u8] = b"audit yes\n";
 
 /// What `--version` writes: the program's name and version, and the kit that it is proved with.

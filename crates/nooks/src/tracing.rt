@@ -1,4 +1,4 @@
-//! The form of a trace: what one burst of a scenario's run did, turn by turn.
+//! The subcommand `trace`: what one burst of a scenario's run did, instruction by instruction.
 
 ghost use Rattle.std.specs.Prelude.{◌≡◌, ◌≤◌, ℕ, List, Ok};
 ghost use Rattle.nook_io.specs.Listening.{Listening};
@@ -6,7 +6,8 @@ ghost use Rattle.input_defs.specs.ScenarioReading.{scenario_from};
 ghost use Rattle.nook_data.specs.Valid.{IsValidScenario};
 ghost use Rattle.nooks.specs.Answers.{AnswersInput};
 ghost use Rattle.nooks.specs.Endings.{Writes};
-ghost use Rattle.nooks.specs.Streams.{Whole, change};
+ghost use Rattle.nook_io.specs.Changes.{change};
+ghost use Rattle.nooks.specs.Streams.{Whole};
 
 use crate::answering::refuse_for;
 use crate::program::{Status, finish};
@@ -19,7 +20,7 @@ use report_text::WriteStop;
 use scenario_read::read_scenario;
 use std::alloc::Global;
 
-/// Simulates the scenario of some bytes up to a burst of the part at a place, and writes the trace of that burst.
+/// Simulates the scenario in some bytes up to a burst of the part at an index, and writes the trace of that burst.
 pub fn trace_bytes<K: Sink>(
     alloc: Global,
     bytes: &[u8],
@@ -27,7 +28,8 @@ pub fn trace_bytes<K: Sink>(
     burst: u32,
     sink: &mut K,
 ) -> Status
-    ensures ends { (hearing : List Listening) → Writes (AnswersInput (Form.Trace part burst) (Whole bytes.now) hearing)
+    ensures ends { (hearing : List Listening)
+        → Writes (AnswersInput (Form.Trace part burst) (Whole bytes.now) hearing)
         (change K.held K.count sink.old sink.new) result }
     ensures later { K.count sink.old ≤ K.count sink.new }
     ensures kept { (result ≡ Status.WriteFault → ⊥) → K.count sink.new ≡ K.count sink.old }
@@ -41,7 +43,8 @@ pub fn trace_bytes<K: Sink>(
 /// Writes the trace of a burst of a scenario's run, or says that there is no such burst.
 fn trace<K: Sink>(alloc: Global, scenario: &Scenario, part: u32, burst: u32, sink: &mut K) -> Status
     requires { IsValidScenario scenario.now }
-    ensures ends { (bytes : List ℕ) (hearing : List Listening) → scenario_from bytes ≡ Ok scenario.now
+    ensures ends { (bytes : List ℕ) (hearing : List Listening)
+        → scenario_from bytes ≡ Ok scenario.now
         → Writes (AnswersInput (Form.Trace part burst) (Whole bytes) hearing)
         (change K.held K.count sink.old sink.new) result }
     ensures later { K.count sink.old ≤ K.count sink.new }

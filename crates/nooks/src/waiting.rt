@@ -1,4 +1,4 @@
-//! The forms of words that read an input and wait for a turn at a part: `run threads` and `mirror`.
+//! The subcommands that read an input and wait for a turn at a part: `run threads` and `mirror`.
 
 ghost use Rattle.std.specs.Prelude.{◌≡◌, ◌+◌, ◌≤◌, Some, map};
 ghost use Rattle.nook_data.specs.Valid.{IsValidScenario};
@@ -6,7 +6,8 @@ ghost use Rattle.nook_io.specs.Causes.{TakesAtMost};
 ghost use Rattle.nooks.specs.Answers.{AnswersInput, IsReported};
 ghost use Rattle.nooks.specs.Endings.{Ends, Writes};
 ghost use Rattle.command_forms.specs.Forms.{form_for, limit_of};
-ghost use Rattle.nooks.specs.Streams.{Whole, change};
+ghost use Rattle.nook_io.specs.Changes.{change};
+ghost use Rattle.nooks.specs.Streams.{Whole};
 
 use crate::answering::{bus_of, refuse_for, refuse_source};
 use crate::heard::Heard;
@@ -37,12 +38,15 @@ where
     Heard<T>: Listener,
     ensures ends { Ends (Some (form_for asked))
         (map (λ v. ⟦<Heard<T> as Listener>⟧.listening (record { value = v })) listeners.items)
-        (change S.left S.count source.old source.new) (change K.held K.count sink.old sink.new) result }
+        (change S.left S.count source.old source.new)
+        (change K.held K.count sink.old sink.new) result }
     ensures unwritten { result ≡ Status.ReadFault → sink.new ≡ sink.old }
-    ensures taken { TakesAtMost (S.left source.old) (S.left source.new) (limit_of (form_for asked) + 1) }
+    ensures taken { TakesAtMost (S.left source.old) (S.left source.new)
+        (limit_of (form_for asked) + 1) }
     ensures source_later { S.count source.old ≤ S.count source.new }
     ensures sink_later { K.count sink.old ≤ K.count sink.new }
-    ensures source_kept { (result ≡ Status.ReadFault → ⊥) → S.count source.new ≡ S.count source.old }
+    ensures source_kept { (result ≡ Status.ReadFault → ⊥)
+        → S.count source.new ≡ S.count source.old }
     ensures sink_kept { (result ≡ Status.WriteFault → ⊥) → K.count sink.new ≡ K.count sink.old }
 {
     match read_all(alloc, source, LIMIT) {
@@ -51,7 +55,7 @@ where
     }
 }
 
-/// Answers the bytes of the source, or tells their first fault.
+/// Answers the bytes of the source, or reports their first input error.
 fn wait<R: Threads + Wait + Sync, K: Sink, G: Gate, T: Drop>(
     rt: &R,
     alloc: Global,
@@ -77,7 +81,7 @@ where
     }
 }
 
-/// Runs the threads of the scenario of some bytes and writes the report.
+/// Runs the threads of the scenario in some bytes and writes the report.
 fn run_scenario_by_threads<R: Threads + Wait + Sync, K: Sink, G: Gate, T: Drop>(
     rt: &R,
     alloc: Global,

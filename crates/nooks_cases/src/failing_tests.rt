@@ -1,5 +1,5 @@
-//! Each form that reads, over a source and a sink that fail at each of their calls in turn; and listeners that are
-//! dropped in the middle of a run.
+//! Every subcommand that reads, with a source and a sink that fail at each of their calls in turn; and listeners that
+//! are dropped in the middle of a run.
 
 use crate::inputs::{CAMPAIGN, EVERY, IMAGE, MEMBERS, MIRROR, REPORT, SCENARIO, TEXT};
 use crate::running::{Failing, PER_READ, outcome};
@@ -12,10 +12,10 @@ use std::sync::Wait;
 use std::test::Fail;
 use std::thread::Threads;
 
-/// More reads and writes than any of the forms makes.
+/// More reads and writes than any of the subcommands makes.
 const MOST: u32 = 100;
 
-/// The forms that read, each with an input that it serves.
+/// The subcommands that read, each with an input that it serves.
 const FORMS: [(&str, &str); 14] = [
     ("run", SCENARIO),
     ("run threads", SCENARIO),
@@ -33,7 +33,7 @@ const FORMS: [(&str, &str); 14] = [
     ("dis", IMAGE),
 ];
 
-/// The read of this number fails.
+/// The read with this number fails.
 const fn at_read(read: u32) -> Failing {
     Failing {
         read,
@@ -42,8 +42,8 @@ const fn at_read(read: u32) -> Failing {
     }
 }
 
-/// Each read of the input may fail, the one that finds its end too; then nothing is written. There is no other read. Gives
-/// what is written if none fails.
+/// Each read of the input may fail, including the one that finds its end; then nothing is written. There are no other
+/// reads. Returns what is written if none fails.
 fn check_reads<R: Threads + Wait + Sync + Abort>(
     rt: &R,
     alloc: Global,
@@ -63,7 +63,7 @@ fn check_reads<R: Threads + Wait + Sync + Abort>(
     Err(Fail::from("more reads"))
 }
 
-/// Each write of the output may fail, or take nothing; then a front is written, and with each later write a longer one.
+/// Each write of the output may fail, or take nothing; then a prefix is written, a longer one with each later write.
 fn check_writes<R: Threads + Wait + Sync + Abort>(
     rt: &R,
     alloc: Global,
@@ -106,7 +106,7 @@ fn each_read_and_each_write_may_fail(rt: HostRuntime) -> Result<(), Fail> {
     Ok(())
 }
 
-/// A table of 1,025 rows is written in three pieces: 1,024 rows, the other, and the last line.
+/// A table of 1,025 rows is written in three pieces: 1,024 rows, the last row, and the last line.
 #[test]
 fn a_table_is_written_in_batches(rt: HostRuntime) -> Result<(), Fail> {
     let alloc = rt.alloc();
@@ -133,8 +133,8 @@ fn a_table_is_written_in_batches(rt: HostRuntime) -> Result<(), Fail> {
     Ok(())
 }
 
-/// A listener that reaches its limit is dropped in the middle of the boot, or before it, and hears nothing more. One of
-/// stages alone hears them all.
+/// A listener that reaches its limit is dropped in the middle of the boot, or before it, and hears nothing more. One
+/// that listens only to stages hears them all.
 #[test]
 fn listeners_are_dropped_at_their_limits(rt: HostRuntime) -> Result<(), Fail> {
     let alloc = rt.alloc();

@@ -1,10 +1,10 @@
-//! Inputs of the program. Each disk has one driver of two words, which serves every call by a reply alone.
+//! Inputs of the program. Each disk has the same driver of two words, which serves every call with just a reply.
 
-/// A disk, and a thread that asks it for a register.
+/// A disk, and a thread that reads one of its registers.
 pub const SCENARIO: &str =
     r#"{"version":1,"parts":[{"name":"d0","class":"block","blocks":1,"driver":{"asm":".class block\n.entry init 0\n.entry read 1\n.entry write 1\n.entry get 1\n.entry set 1\nKCALL 3\nRET r0\n"}}],"threads":[{"name":"t0","ops":[{"part":0,"op":"get","key":0}]}]}"#;
 
-/// The disk, and two threads with two such calls and with three.
+/// The disk, and two threads, one with two such calls and one with three.
 pub const TWO_THREADS: &str =
     r#"{"version":1,"parts":[{"name":"d0","class":"block","blocks":1,"driver":{"asm":".class block\n.entry init 0\n.entry read 1\n.entry write 1\n.entry get 1\n.entry set 1\nKCALL 3\nRET r0\n"}}],"threads":[{"name":"t0","ops":[{"part":0,"op":"get","key":0},{"part":0,"op":"get","key":0}]},{"name":"t1","ops":[{"part":0,"op":"get","key":0},{"part":0,"op":"get","key":0},{"part":0,"op":"get","key":0}]}]}"#;
 
@@ -34,11 +34,11 @@ status 0
 pub const CAMPAIGN: &str =
     r#"{"base":{"version":1,"parts":[{"name":"d0","class":"block","blocks":1,"driver":{"asm":".class block\n.entry init 0\n.entry read 1\n.entry write 1\n.entry get 1\n.entry set 1\nKCALL 3\nRET r0\n"}}],"threads":[{"name":"t0","ops":[{"part":0,"op":"get","key":0}]}]},"part":0,"faults":[{"burst":3,"after":0,"kind":"trap"}]}"#;
 
-/// A campaign over the scenario with every trap, a guard and details; its table begins with the row of the base.
+/// A campaign over the scenario with every trap, a guard and details; its table begins with the base's row.
 pub const EVERY: &str =
     r#"{"base":{"version":1,"parts":[{"name":"d0","class":"block","blocks":1,"driver":{"asm":".class block\n.entry init 0\n.entry read 1\n.entry write 1\n.entry get 1\n.entry set 1\nKCALL 3\nRET r0\n"}}],"threads":[{"name":"t0","ops":[{"part":0,"op":"get","key":0}]}]},"part":0,"every":[{"kind":"trap"}],"guard":true,"detail":true}"#;
 
-/// One with two faults in its first member and one in its second, and details.
+/// A campaign with two faults in its first member and one in its second, and details.
 pub const MEMBERS: &str =
     r#"{"base":{"version":1,"parts":[{"name":"d0","class":"block","blocks":1,"driver":{"asm":".class block\n.entry init 0\n.entry read 1\n.entry write 1\n.entry get 1\n.entry set 1\nKCALL 3\nRET r0\n"}}],"threads":[{"name":"t0","ops":[{"part":0,"op":"get","key":0}]}]},"part":0,"members":[[{"burst":3,"after":0,"kind":"trap"},{"burst":4,"after":0,"kind":"trap"}],[{"burst":9,"after":0,"kind":"trap"}]],"detail":true}"#;
 

@@ -1,5 +1,5 @@
-//! The program over sources and sinks that fail, listeners and gates: what no file outside can show. Its runs by their
-//! texts are in checks/runs.
+//! The program with failing sources and sinks, listeners and gates: what no file outside can show. Its runs with
+//! texts as input are in checks/runs.
 #![tactic(auto)]
 
 #[cfg(test)]

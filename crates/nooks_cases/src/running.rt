@@ -1,4 +1,4 @@
-//! Runs of the program over sources and sinks in memory.
+//! Runs of the program with sources and sinks in memory.
 
 use nook_data::lists::{Words, Words8};
 use nook_io::listeners::FreeGate;
@@ -13,11 +13,11 @@ use std::thread::Threads;
 /// More bytes than any of the outputs has.
 const ROOM: u32 = 262_144;
 
-/// The bytes of a read at most.
+/// The maximum number of bytes in a read.
 pub const PER_READ: u32 = 100;
 
-/// The numbers of the read and of the write that fail, 0 for none; `nothing` tells whether that write takes nothing
-/// instead of a fault.
+/// The numbers of the read and of the write that fail, 0 for none; `nothing` says whether that write takes nothing
+/// instead of failing.
 #[derive(Clone, Copy)]
 pub struct Failing {
     pub read: u32,
@@ -25,7 +25,7 @@ pub struct Failing {
     pub nothing: bool,
 }
 
-/// Runs a form, whose words are separated by blanks, over an input. Gives the status, and what was written.
+/// Runs a subcommand with its arguments, separated by blanks, on an input. Returns the status and the output.
 pub fn outcome<R: Threads + Wait + Sync>(
     rt: &R,
     alloc: Global,
@@ -53,7 +53,7 @@ pub fn outcome<R: Threads + Wait + Sync>(
     Ok((status, String::from_str(alloc, written)?))
 }
 
-/// The words of a form.
+/// Splits a subcommand and its arguments.
 pub fn words_of(alloc: Global, form: &str) -> Result<Vec<String>, Fail> {
     let mut words = Vec::new(alloc);
     for word in form.split_whitespace() {

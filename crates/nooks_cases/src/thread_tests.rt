@@ -8,11 +8,11 @@ use nooks::{Status, run_plain};
 use std::sync::atomic::{AtomicU64, Ordering};
 use std::test::Fail;
 
-/// How often a gate looks before it gives up.
+/// How often a gate checks before it gives up.
 const MOST_LOOKS: u32 = 500_000_000;
 
-/// Holds thread 0 before its first operation until thread 1 has passed to its second, and thread 1 before its third until
-/// thread 0 has passed to its second. So two threads pass only if they run concurrently.
+/// Holds thread 0 before its first operation until thread 1 has passed to its second, and thread 1 before its third
+/// until thread 0 has passed to its second. So two threads pass only if they run concurrently.
 #[derive(Drop)]
 struct HoldingGate {
     passed: [AtomicU64; 2],
@@ -32,9 +32,9 @@ impl HoldingGate {
 }
 
 impl Gate for HoldingGate {
-    fn pass(&self, thread: u8, place: u32) {
+    fn pass(&self, thread: u8, index: u32) {
         let [first, second] = &self.passed;
-        match (thread, place) {
+        match (thread, index) {
             (0, 0) => self.wait_for(second),
             (1, 2) => self.wait_for(first),
             _ => (),
@@ -44,8 +44,8 @@ impl Gate for HoldingGate {
     }
 }
 
-/// Two threads run concurrently: each waits for the other in turn, and the gate does not give up. Each passes the gate once
-/// for each of its operations.
+/// Two threads run concurrently: each waits for the other in turn, and the gate does not give up. Each passes the
+/// gate once for each of its operations.
 #[test]
 fn threads_run_concurrently(rt: HostRuntime) -> Result<(), Fail> {
     let alloc = rt.alloc();

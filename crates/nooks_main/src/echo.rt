@@ -7,7 +7,7 @@ ghost use Rattle.nook_io.specs.Causes.{HasWriteCause};
 
 use nook_io::outside::{Failed, Sink};
 
-/// More bytes than the line of a fault has.
+/// More bytes than the line of an input error has.
 const MOST: usize = 512;
 
 /// A sink over another, with the first bytes that the other took.
@@ -20,7 +20,7 @@ pub struct Echo<K> {
 }
 
 impl<K: Sink> Echo<K> {
-    /// A sink over this one, through which nothing went yet.
+    /// A sink over this one, through which nothing has gone yet.
     pub fn new(inner: K) -> Echo<K>
         ensures inner { result.inner ≡ inner }
         ensures empty { result.len ≡ 0 }
@@ -41,16 +41,16 @@ impl<K: Sink> Echo<K> {
     }
 }
 
-/// Puts bytes behind the first `len` of a buffer, as far as there is room, and says how many it holds then.
+/// Puts bytes after the first `len` of a buffer, as far as there is room, and returns how many it holds then.
 fn keep(front: &mut [u8], len: usize, bytes: &[u8]) -> usize
     requires { len ≤ length front.old }
     ensures { result ≤ length front.old }
 {
     let (_, rest) = front.split_at_mut(len);
     let n = bytes.len().min(rest.len());
-    let (place, _) = rest.split_at_mut(n);
+    let (index, _) = rest.split_at_mut(n);
     let (piece, _) = bytes.split_at(n);
-    place.copy_from_slice(piece);
+    index.copy_from_slice(piece);
     len + n
 }
 

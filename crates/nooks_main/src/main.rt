@@ -1,4 +1,4 @@
-//! The program `nooks`: one call of [`nooks::run`] over the words, standard input and standard output.
+//! The program `nooks`: one call of [`nooks::run`] over the arguments, standard input and standard output.
 #![tactic(auto)]
 
 mod echo;
@@ -18,14 +18,14 @@ use std::process::ExitCode;
 use std::sync::Wait;
 use std::thread::Threads;
 
-/// Runs the program on the words behind its own name, says on standard error what went wrong, and ends with the
-/// status's code. Out of memory before the call ends it as out of memory within.
+/// Runs the program on the arguments after its own name, says on standard error what went wrong, and ends with the
+/// status's code. Running out of memory before the call ends the program as it does within the call.
 fn main(rt: HostRuntime) -> ExitCode {
     let mut sink = Echo::new(OutSink::new(io::writer(&rt)));
     let status = match words_of(&rt, rt.alloc()) {
         Ok(words) => {
             let status = answer(&rt, words.as_slice(), &mut sink).unwrap_or(Status::NoMemory);
-            // What standard error does not take is lost: there is nobody left to tell.
+            // What standard error does not take is lost: there is no one left to report it to.
             let _hinted = hint(&rt, status, words.as_slice());
             status
         }
@@ -35,7 +35,7 @@ fn main(rt: HostRuntime) -> ExitCode {
     ExitCode::from(status.code())
 }
 
-/// Makes the listeners, and does what the words ask for.
+/// Makes the listeners, and does what the arguments ask for.
 fn answer<R: Input + AllocGlobal + Threads + Wait + Sync, K: Sink>(
     rt: &R,
     words: &[String],
@@ -51,7 +51,7 @@ fn answer<R: Input + AllocGlobal + Threads + Wait + Sync, K: Sink>(
     Ok(status)
 }
 
-/// The words behind the program's own name. A word that is not UTF-8 makes them words of no form: one empty word.
+/// The arguments after the program's own name; if one is not UTF-8, a single empty argument, which no subcommand has.
 fn words_of<R: Env + AllocGlobal>(rt: &R, alloc: Global) -> Result<Vec<String>, AllocError> {
     let mut words = Vec::new(alloc);
     match std::env::args(rt) {
@@ -66,7 +66,7 @@ fn words_of<R: Env + AllocGlobal>(rt: &R, alloc: Global) -> Result<Vec<String>, 
     Ok(words)
 }
 
-/// Says on standard error how words that are of no form can be mended.
+/// Says on standard error how to fix arguments that no subcommand has.
 fn hint(rt: &HostRuntime, status: Status, words: &[String]) -> io::Result<()> {
     if status == Status::Usage {
         eprintln!(rt; "nooks: {FORMS}")?;
@@ -77,12 +77,12 @@ fn hint(rt: &HostRuntime, status: Status, words: &[String]) -> io::Result<()> {
     Ok(())
 }
 
-/// Whether one of the words is the path of a file.
+/// Whether one of the arguments is the path of a file.
 fn names_a_file(rt: &HostRuntime, words: &[String]) -> bool {
     words.iter().any(|word| std::fs::metadata(rt, word.as_str()).is_ok_and(|it| it.is_file()))
 }
 
-/// Says on standard error what went wrong. The line of a fault of the input went to standard output: it is repeated
+/// Says on standard error what went wrong. The line of an input error went to standard output: it is repeated
 /// if that is no terminal, so that a redirection does not hide it.
 fn say(rt: &HostRuntime, status: Status, front: &[u8]) -> io::Result<()> {
     if status == Status::BadInput {

@@ -1,22 +1,23 @@
-//! What is said on standard error.
+//! What the program writes to standard error.
 
 ghost use Rattle.std.specs.Prelude.{◌≡◌, ◌⊎◌, IfSome, IsNone, IsSome};
 
 use nooks::Status;
 
-/// After the usage line: where the forms are listed.
+/// After the usage line: where the subcommands are listed.
 pub const FORMS: &str = "`nooks --help` lists every form of words";
 
-/// After the usage line, if a word is the path of a file.
+/// After the usage line, if an argument is the path of a file.
 pub const STANDARD_INPUT: &str = "input comes from standard input: nooks run < FILE";
 
-/// After the line of a refused input: what shows the place.
+/// After the line of a refused input: what shows the position.
 pub const EXPLAIN: &str =
     "`nooks-bench explain --input FILE`, given this line, shows the place in the input";
 
-/// What went wrong outside the program, in a few words; `None` where nothing did, or where a line of its own tells it.
+/// What went wrong outside the program, in a few words; `None` if nothing did, or if a line of its output says it.
 pub fn message_of(status: Status) -> Option<&'static str>
-    ensures said { result ≡ None → (status ≡ Status.ReadFault → ⊥) × (status ≡ Status.WriteFault → ⊥)
+    ensures said { result ≡ None
+        → (status ≡ Status.ReadFault → ⊥) × (status ≡ Status.WriteFault → ⊥)
         × (status ≡ Status.NoMemory → ⊥) }
 {
     match status {

@@ -1,4 +1,4 @@
--- How many entries of a kind a changed list has.
+-- How many entries of a kind a list has after a change.
 use Rattle.std.proofs.Common.{◌≡◌, ℕ, suc, ◌+◌, ◌≤◌, Bool, true, false, cond, if◌then◌else◌, List, [], ◌∷◌, length, filter, count_by, arith, refl, sym, ap, ◌∙◌}
 use Rattle.std.specs.List.{list_any}
 use Rattle.std.proofs.lemmas.List.Sums.{sum_by-cons}
@@ -52,7 +52,7 @@ count_registered p live (x ∷ es) same =
     one_more p (with_live live x) (registered live es)
     ∙ rw (same x, count_registered p live es same) (sym (one_more p x es))
 
--- where there is none of the kind
+-- if there is none of the kind
 pub count_none : (p : Entry → Bool) (es : List Entry) → list_any p es ≡ false → count_by p es ≡ 0
 count_none p [] none = refl
 count_none p (x ∷ es) none = grind (arith, one_more p x es, count_none p es)

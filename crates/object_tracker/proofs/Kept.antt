@@ -1,4 +1,4 @@
--- The bounds that every tracker keeps: what each change leaves of them.
+-- The bounds that every tracker keeps: how each change preserves them.
 use Rattle.std.proofs.Common.{◌≡◌, inl, inr, ℕ, zero, suc, ◌+◌, ◌-◌, ◌<◌, ◌≤◌, if◌then◌else◌, Bool, true, false, cond, not, nat_lt, nat_le, ◌==◌, ◌||◌, Some, List, [], ◌∷◌, length, filter, count_by, arith, refl, subst, ◌∙◌}
 use Rattle.std.specs.List.{list_any}
 use Rattle.std.proofs.lemmas.Bool.{cases_eq}
@@ -6,8 +6,8 @@ use Rattle.nook_data.specs.declared.entries.Entry.{Entry}
 use Rattle.nook_data.specs.declared.entries.Entry.TheVariants as entry
 use Rattle.machine_defs.specs.Entries.{is_heap_use, is_borrow_of, is_buffer_of, is_registration, with_entry, with_live}
 use Rattle.machine_defs.specs.Entries.{registered, free_start, borrow_start}
-use Rattle.object_tracker.specs.declared.wanted.Wanted.{Wanted}
-use Rattle.object_tracker.specs.declared.wanted.Wanted.TheVariants as wanted
+use Rattle.object_tracker.specs.declared.query.Query.{Query}
+use Rattle.object_tracker.specs.declared.query.Query.TheVariants as query
 use Rattle.object_tracker.specs.Tracked.{is_stray, fits, IsKept, IsTracked}
 use Rattle.std.proofs.lemmas.Option.{same_Some}
 use Rattle.object_tracker.proofs.Steps.{run_some, run_within}
@@ -65,7 +65,7 @@ few_entries es k = omega (arith, all_kinds es, below_most 17 es k.buffers, k.hea
 pub few_heap : (es : List Entry) → IsKept es → count_by is_heap_use es < 64 → length es < 82
 few_heap es k room = omega (arith, all_kinds es, below_most 17 es k.buffers, room, k.contexts, k.registration)
 
--- one entry more
+-- one more entry
 
 pub room_left : (heap_start n : ℕ) (es : List Entry) (start : ℕ) → Some start ≡ free_start heap_start n es → count_by is_heap_use es < 64
 room_left heap_start n es start found = grind arith
@@ -119,7 +119,7 @@ few_buffers context es k within none =
     let more = kept_buffer context true es k within none in
     omega (arith, few_entries _ more, length_with (entry.Buffer context true) es)
 
--- some entries less
+-- fewer entries
 
 kept_filter : (q : Entry → Bool) (es : List Entry) → IsKept es → ((e : Entry) → is_registration e ≡ true → q e ≡ true) → IsKept (filter q es)
 kept_filter q es k all = record {
@@ -129,36 +129,36 @@ kept_filter q es k all = record {
   registration = count_filter_all is_registration q es all ∙ k.registration;
 }
 
--- what may end: no registration
-abbrev pub spares : Wanted → Type 0
+-- what may end does not include the registration
+abbrev pub spares : Query → Type 0
 spares w = (e : Entry) → is_registration e ≡ true → not (fits w e) ≡ true
 
-pub spares_heap : (start : ℕ) → spares (wanted.Heap start)
+pub spares_heap : (start : ℕ) → spares (query.Heap start)
 spares_heap start (entry.Heap s len) r = grind arith
 spares_heap start (entry.Borrow object s) r = refl
 spares_heap start (entry.Buffer context writable) r = refl
 spares_heap start (entry.Registration live) r = refl
 
-pub spares_borrow : (object : ℕ) → spares (wanted.Borrow object)
+pub spares_borrow : (object : ℕ) → spares (query.Borrow object)
 spares_borrow object (entry.Heap s len) r = refl
 spares_borrow object (entry.Borrow o s) r = grind arith
 spares_borrow object (entry.Buffer context writable) r = refl
 spares_borrow object (entry.Registration live) r = refl
 
-pub spares_buffer : (context : ℕ) → spares (wanted.Buffer context)
+pub spares_buffer : (context : ℕ) → spares (query.Buffer context)
 spares_buffer context (entry.Heap s len) r = refl
 spares_buffer context (entry.Borrow o s) r = refl
 spares_buffer context (entry.Buffer c writable) r = grind arith
 spares_buffer context (entry.Registration live) r = refl
 
-pub spares_held : spares wanted.Held
+pub spares_held : spares query.Held
 spares_held e r = rw r refl
 
-pub kept_ended : (heap_start : ℕ) (w : Wanted) (es : List Entry) → IsTracked heap_start es → spares w → IsTracked heap_start (filter (λ e. not (fits w e)) es)
+pub kept_ended : (heap_start : ℕ) (w : Query) (es : List Entry) → IsTracked heap_start es → spares w → IsTracked heap_start (filter (λ e. not (fits w e)) es)
 kept_ended heap_start w es t spared =
     record { start = t.start; kept = kept_filter (λ e. not (fits w e)) es t.kept spared }
 
--- the registration live or not
+-- the registration becomes live or not
 
 same_heap : (live : Bool) (e : Entry) → is_heap_use (with_live live e) ≡ is_heap_use e
 same_heap live (entry.Heap start len) = refl

@@ -4,22 +4,22 @@ use Rattle.std.proofs.lemmas.Option.{same_Some}
 use Rattle.nook_data.specs.declared.entries.Entry.{Entry}
 use Rattle.machine_defs.specs.Entries.{with_live, registered, is_free_run, lowest_run}
 
--- an entry that ends is taken away
-pub end_one : (p : Entry → Bool) (es : List Entry) (place : ℕ) (d : Entry) → place < length es → p (get_or es place d) ≡ false → take place (remove es place) ++ filter p (drop place (remove es place)) ≡ take place es ++ filter p (drop place es)
-end_one p [] place d within ends = absurd (omega (arith, within))
+-- an entry that ends is removed
+pub end_one : (p : Entry → Bool) (es : List Entry) (index : ℕ) (d : Entry) → index < length es → p (get_or es index d) ≡ false → take index (remove es index) ++ filter p (drop index (remove es index)) ≡ take index es ++ filter p (drop index es)
+end_one p [] index d within ends = absurd (omega (arith, within))
 end_one p (x ∷ es) zero d within ends = rw ends refl
-end_one p (x ∷ es) (suc place) d within ends = ap (λ l. x ∷ l) (end_one p es place d (omega (arith, within)) ends)
+end_one p (x ∷ es) (suc index) d within ends = ap (λ l. x ∷ l) (end_one p es index d (omega (arith, within)) ends)
 
--- an entry is put back with its registration live or not
-live_at : (live : Bool) (es : List Entry) (place : ℕ) (d : Entry) → place < length es → insert (remove (registered live (take place es) ++ drop place es) place) place (with_live live (get_or (registered live (take place es) ++ drop place es) place d)) ≡ registered live (take (suc place) es) ++ drop (suc place) es
-live_at live [] place d within = absurd (omega (arith, within))
+-- an entry is inserted again with its registration live or not
+live_at : (live : Bool) (es : List Entry) (index : ℕ) (d : Entry) → index < length es → insert (remove (registered live (take index es) ++ drop index es) index) index (with_live live (get_or (registered live (take index es) ++ drop index es) index d)) ≡ registered live (take (suc index) es) ++ drop (suc index) es
+live_at live [] index d within = absurd (omega (arith, within))
 live_at live (x ∷ es) zero d within = refl
-live_at live (x ∷ es) (suc place) d within = ap (λ l. with_live live x ∷ l) (live_at live es place d (omega (arith, within)))
+live_at live (x ∷ es) (suc index) d within = ap (λ l. with_live live x ∷ l) (live_at live es index d (omega (arith, within)))
 
-pub live_one : (live : Bool) (es now : List Entry) (place next : ℕ) (x : Entry) → place < length es → next ≡ suc place → now ≡ registered live (take place es) ++ drop place es → get_or now place x ≡ x → insert (remove now place) place (with_live live x) ≡ registered live (take next es) ++ drop next es
-live_one live es now place next x within step same here =
-    let done = live_at live es place x within in
-    rw step (ap (λ y. insert (remove now place) place (with_live live y)) (sym here) ∙ rw same done)
+pub live_one : (live : Bool) (es now : List Entry) (index next : ℕ) (x : Entry) → index < length es → next ≡ suc index → now ≡ registered live (take index es) ++ drop index es → get_or now index x ≡ x → insert (remove now index) index (with_live live x) ≡ registered live (take next es) ++ drop next es
+live_one live es now index next x within step same here =
+    let done = live_at live es index x within in
+    rw step (ap (λ y. insert (remove now index) index (with_live live y)) (sym here) ∙ rw same done)
 
 -- the search for a run of free words
 pub run_found : (left : ℕ) (es : List Entry) (start n : ℕ) → 0 < left → is_free_run es start n ≡ true → Some start ≡ lowest_run left es start n

@@ -3,7 +3,7 @@ use Rattle.slab.specs.Slab.{Slab, get, slab_len}
 use Rattle.nook_data.specs.declared.entries.Entry.{Entry}
 use Rattle.nook_data.specs.declared.entries.Entry.TheVariants as entry
 
--- How a list of entries stands in a slab: a list of keys gives the order.
+-- How a slab holds a list of entries: a list of keys gives the order.
 
 abbrev pub found : Option Entry → Entry
 found None = entry.Registration false
@@ -13,7 +13,7 @@ found (Some e) = e
 abbrev pub entry_at : Slab Entry → ℕ → Entry
 entry_at slab key = found (get slab key)
 
--- none of the keys is this one
+-- the key is not in the list
 abbrev pub AreOther : ℕ → List ℕ → Type 0
 AreOther key [] = Unit {0}
 AreOther key (k ∷ keys) = (k ≢ key) × AreOther key keys
@@ -23,7 +23,7 @@ abbrev pub AreKeys : Slab Entry → List ℕ → Type 0
 AreKeys slab [] = Unit {0}
 AreKeys slab (k ∷ keys) = IsSome (get slab k) × AreOther k keys × AreKeys slab keys
 
--- the keys are those of the slab, and both have room for 82
+-- the list has all keys of the slab, and both have room for 82
 pub record IsOrdered (slab : Slab Entry) (keys : List ℕ) (room : ℕ) : Type 0 where
   pub keyed : AreKeys slab keys
   pub counted : slab_len slab ≡ length keys

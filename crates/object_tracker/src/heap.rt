@@ -9,8 +9,8 @@ use nook_data::limits::MOST_HEAP_ENTRIES;
 use nook_data::lists::Word;
 use nook_data::memory_map::{DATA_END, DATA_WORDS, OBJECT_WORDS};
 
-/// The lowest start of `n` free heap words: `None` where no run of free words is long enough, or 64 heap and borrow
-/// entries stand.
+/// The lowest start of `n` free heap words: `None` if no run of free words is long enough, or there are already 64 heap
+/// and borrow entries.
 pub fn free_start(entries: &Ordered, heap_start: u32, n: u32) -> Option<Word>
     requires start { heap_start ≤ DATA_END }
     requires n { n ≤ DATA_WORDS }
@@ -28,8 +28,8 @@ fn heap_count(entries: &Ordered) -> usize
     ensures { result ≡ count_by is_heap_use entries.now }
 {
     let mut count = 0;
-    for place in 0..entries.len() {
-        count += usize::from(is_heap_use(entries.get(place)));
+    for index in 0..entries.len() {
+        count += usize::from(is_heap_use(entries.get(index)));
     }
     count
 }
@@ -64,8 +64,8 @@ fn lowest_run(entries: &Ordered, heap_start: u32, n: u32) -> Option<Word>
 fn is_free_run(entries: &Ordered, start: u32, n: u32) -> bool
     ensures { result ≡ is_free_run entries.now start n }
 {
-    for place in 0..entries.len() {
-        if covers_some(entries.get(place), start, n) {
+    for index in 0..entries.len() {
+        if covers_some(entries.get(index), start, n) {
             return false;
         }
     }
@@ -86,7 +86,7 @@ fn covers_some(entry: Entry, start: u32, n: u32) -> bool
     }
 }
 
-/// Whether two runs of words meet.
+/// Whether two runs of words overlap.
 fn overlap(start: u32, n: u32, other: u32, len: u32) -> bool
     ensures { result ≡ overlap start n other len }
 {

@@ -1,4 +1,4 @@
-//! Entries in Collect's order: where one belongs, which end, which are there.
+//! Entries in Collect's order: where one belongs, which end, which exist.
 
 ghost use Rattle.std.specs.Prelude.{◌≡◌, ◌+◌, ◌-◌, ◌^◌, ◌↔◌, ◌<◌, ◌≤◌, [], ◌∷◌, ◌++◌, length, take, drop, filter};
 ghost use Rattle.std.specs.Prelude.{insert, not, Contains, IsTrue, IfOk};
@@ -8,13 +8,13 @@ ghost use Rattle.machine_defs.specs.Entries.{borrow_start};
 ghost use Rattle.object_tracker.specs.Tracked.{fits};
 
 use crate::ordered::Ordered;
-use crate::wanted::{Wanted, fits, is_registration};
+use crate::query::{Query, fits, is_registration};
 use nook_data::entries::{Entry, Released};
 use nook_data::lists::{Items, Word};
 use nook_data::memory::NoMemory;
 use std::alloc::Global;
 
-/// Where the entry's kind stands in Collect's order.
+/// The rank of the entry's kind in Collect's order.
 fn rank(entry: Entry) -> u8
     ensures { result ≡ rank entry }
 {
@@ -54,85 +54,86 @@ fn comes_before(first: Entry, second: Entry) -> bool
     rank(first) < rank(second) || rank(first) == rank(second) && key_of(first) < key_of(second)
 }
 
-/// The place where an entry belongs.
-fn place_of(entries: &Ordered, entry: Entry) -> usize
+/// The index at which an entry belongs.
+fn position_of(entries: &Ordered, entry: Entry) -> usize
     ensures within { result ≤ length entries.now }
-    ensures place { insert entries.now result entry ≡ with_entry entry entries.now }
+    ensures index { insert entries.now result entry ≡ with_entry entry entries.now }
 {
-    for place in 0..entries.len() {
-        if comes_before(entry, entries.get(place)) {
-            return place;
+    for index in 0..entries.len() {
+        if comes_before(entry, entries.get(index)) {
+            return index;
         }
     }
     entries.len()
 }
 
-/// Adds an entry in its place.
+/// Inserts an entry where it belongs.
 pub fn add(entries: &mut Ordered, entry: Entry)
     requires { length entries.old < 82 }
     ensures { entries.new ≡ with_entry entry entries.old }
 {
-    let place = place_of(entries, entry);
-    entries.insert(place, entry);
+    let index = position_of(entries, entry);
+    entries.insert(index, entry);
 }
 
-/// Takes away the entries that are wanted.
-pub fn end_all(entries: &mut Ordered, wanted: Wanted)
-    ensures { entries.new ≡ filter (λ e. not (fits wanted e)) entries.old }
+/// Removes the entries that match.
+pub fn end_all(entries: &mut Ordered, query: Query)
+    ensures { entries.new ≡ filter (λ e. not (fits query e)) entries.old }
 {
-    let mut place = 0;
-    while place < entries.len() {
-        place = end_at(entries, place, wanted);
+    let mut index = 0;
+    while index < entries.len() {
+        index = end_at(entries, index, query);
     }
 }
 
-/// Takes away the entry at a place where it is wanted; the next place to look at.
-fn end_at(entries: &mut Ordered, place: usize, wanted: Wanted) -> usize
-    requires place { place < length entries.old }
-    requires fits { place + 1 < 2 ^ 64 }
+/// Removes the entry at an index if it matches; returns the next index to look at.
+fn end_at(entries: &mut Ordered, index: usize, query: Query) -> usize
+    requires index { index < length entries.old }
+    requires fits { index + 1 < 2 ^ 64 }
     ensures within { result ≤ length entries.new }
-    ensures nearer { length entries.new - result < length entries.old - place }
-    ensures same { take result entries.new ++ filter (λ e. not (fits wanted e)) (drop result entries.new)
-        ≡ take place entries.old ++ filter (λ e. not (fits wanted e)) (drop place entries.old) }
+    ensures nearer { length entries.new - result < length entries.old - index }
+    ensures same { take result entries.new
+        ++ filter (λ e. not (fits query e)) (drop result entries.new)
+        ≡ take index entries.old ++ filter (λ e. not (fits query e)) (drop index entries.old) }
 {
-    if fits(wanted, entries.get(place)) {
-        entries.remove(place);
-        place
+    if fits(query, entries.get(index)) {
+        entries.remove(index);
+        index
     } else {
-        place + 1
+        index + 1
     }
 }
 
-/// Whether an entry that is wanted is there.
-pub fn has(entries: &Ordered, wanted: Wanted) -> bool
-    ensures { result ≡ list_any (fits wanted) entries.now }
+/// Whether some entry matches.
+pub fn has(entries: &Ordered, query: Query) -> bool
+    ensures { result ≡ list_any (fits query) entries.now }
 {
-    for place in 0..entries.len() {
-        if fits(wanted, entries.get(place)) {
+    for index in 0..entries.len() {
+        if fits(query, entries.get(index)) {
             return true;
         }
     }
     false
 }
 
-/// Whether this very entry is there.
+/// Whether exactly this entry exists.
 pub fn holds(entries: &Ordered, entry: Entry) -> bool
     ensures { IsTrue result ↔ Contains entries.now entry }
 {
-    for place in 0..entries.len() {
-        if entries.get(place) == entry {
+    for index in 0..entries.len() {
+        if entries.get(index) == entry {
             return true;
         }
     }
     false
 }
 
-/// Where the copy of an object begins, if it is borrowed.
-pub fn borrow_start(entries: &Ordered, wanted: u32) -> Option<Word>
-    ensures { result ≡ borrow_start wanted entries.now }
+/// Where the copy of an object begins, if the object is borrowed.
+pub fn borrow_start(entries: &Ordered, query: u32) -> Option<Word>
+    ensures { result ≡ borrow_start query entries.now }
 {
-    for place in 0..entries.len() {
-        if let Some(start) = copy_start(entries.get(place), wanted) {
+    for index in 0..entries.len() {
+        if let Some(start) = copy_start(entries.get(index), query) {
             return Some(start);
         }
     }
@@ -140,11 +141,11 @@ pub fn borrow_start(entries: &Ordered, wanted: u32) -> Option<Word>
 }
 
 /// Where the copy of an object begins, if the entry is its copy.
-fn copy_start(entry: Entry, wanted: u32) -> Option<Word>
-    ensures { result ≡ borrow_start wanted (entry ∷ []) }
+fn copy_start(entry: Entry, query: u32) -> Option<Word>
+    ensures { result ≡ borrow_start query (entry ∷ []) }
 {
     match entry {
-        Entry::Borrow { object, start } => if object == wanted { Some(start) } else { None },
+        Entry::Borrow { object, start } => if object == query { Some(start) } else { None },
         _ => None,
     }
 }
@@ -154,14 +155,14 @@ pub fn set_live(entries: &mut Ordered, live: bool)
     requires { length entries.old ≤ 82 }
     ensures { entries.new ≡ registered live entries.old }
 {
-    for place in 0..entries.len() {
-        let entry = with_live(entries.get(place), live);
-        entries.remove(place);
-        entries.insert(place, entry);
+    for index in 0..entries.len() {
+        let entry = with_live(entries.get(index), live);
+        entries.remove(index);
+        entries.insert(index, entry);
     }
 }
 
-/// The registration live or not; every other entry as it is.
+/// The registration, live or not; any other entry unchanged.
 fn with_live(entry: Entry, live: bool) -> Entry
     ensures { result ≡ with_live live entry }
 {
@@ -171,13 +172,13 @@ fn with_live(entry: Entry, live: bool) -> Entry
     }
 }
 
-/// A list of the entries but the registration.
+/// A list of the entries without the registration.
 pub fn held(alloc: Global, entries: &Ordered) -> Result<Released, NoMemory>
     ensures { IfOk result (λ made. made ≡ released entries.now) }
 {
     let mut made = Items::new(alloc);
-    for place in 0..entries.len() {
-        keep_held(&mut made, entries.get(place))?;
+    for index in 0..entries.len() {
+        keep_held(&mut made, entries.get(index))?;
     }
     Ok(made)
 }

@@ -1,4 +1,4 @@
-//! A list of at most 82 entries that stand under keys of a slab.
+//! A list of at most 82 entries that are kept under keys of a slab.
 
 ghost use Rattle.std.specs.Prelude.{◌≡◌, ◌<◌, ◌≤◌, [], length, slice_index_or, insert, remove, Decides, IfOk};
 
@@ -9,7 +9,7 @@ use slab::Slab;
 use std::alloc::Global;
 use std::marker::Model;
 
-/// The most entries that a domain has: 64 of the heap, a buffer for each of 17 contexts, the registration.
+/// The maximum number of a domain's entries: 64 of the heap, a buffer for each of 17 contexts, the registration.
 const MOST_ENTRIES: usize = 82;
 
 /// Entries in order, each under a key of a slab. Contracts see the list.
@@ -33,7 +33,7 @@ impl Model for Ordered {
 }
 
 impl Ordered {
-    /// The empty list. It takes room for 82 entries.
+    /// The empty list. It allocates room for 82 entries.
     pub fn new(alloc: Global) -> Result<Ordered, NoMemory>
         ensures { IfOk result (λ made. made ≡ []) }
     {
@@ -42,14 +42,14 @@ impl Ordered {
         Ok(Ordered { slab, keys })
     }
 
-    /// An equal list of its own. It takes room for 82 entries.
+    /// A separate, equal list. It allocates room for 82 entries.
     pub fn copied(&self, alloc: Global) -> Result<Ordered, NoMemory>
         requires { length self.now ≤ 82 }
         ensures { IfOk result (λ made. made ≡ self.now) }
     {
         let mut made = Ordered::new(alloc)?;
-        for place in 0..self.len() {
-            made.insert(place, self.get(place));
+        for index in 0..self.len() {
+            made.insert(index, self.get(index));
         }
         Ok(made)
     }
@@ -61,12 +61,12 @@ impl Ordered {
         self.keys.len()
     }
 
-    /// The entry at a place.
-    pub fn get(&self, place: usize) -> Entry
-        requires { place < length self.now }
-        ensures { slice_index_or self.now place result ≡ result }
+    /// The entry at an index.
+    pub fn get(&self, index: usize) -> Entry
+        requires { index < length self.now }
+        ensures { slice_index_or self.now index result ≡ result }
     {
-        self.slab[self.keys[place]]
+        self.slab[self.keys[index]]
     }
 
     /// Whether the other list has the same entries in the same order.
@@ -76,30 +76,30 @@ impl Ordered {
         if self.len() != other.len() {
             return false;
         }
-        for place in 0..self.len() {
-            if !self.get(place).is_same(&other.get(place)) {
+        for index in 0..self.len() {
+            if !self.get(index).is_same(&other.get(index)) {
                 return false;
             }
         }
         true
     }
 
-    /// Puts an entry at a place; those from there on come behind it. It takes no memory.
-    pub fn insert(&mut self, place: usize, entry: Entry)
-        requires place { place ≤ length self.old }
+    /// Inserts an entry at an index, before those from there on. It takes no memory.
+    pub fn insert(&mut self, index: usize, entry: Entry)
+        requires index { index ≤ length self.old }
         requires room { length self.old < 82 }
-        ensures { self.new ≡ insert self.old place entry }
+        ensures { self.new ≡ insert self.old index entry }
     {
         let key = self.slab.insert_reserved(entry);
-        self.keys.insert(place, key).unwrap();
+        self.keys.insert(index, key).unwrap();
     }
 
-    /// Takes the entry at a place away.
-    pub fn remove(&mut self, place: usize)
-        requires { place < length self.old }
-        ensures { self.new ≡ remove self.old place }
+    /// Removes the entry at an index.
+    pub fn remove(&mut self, index: usize)
+        requires { index < length self.old }
+        ensures { self.new ≡ remove self.old index }
     {
-        let key = self.keys.remove(place);
+        let key = self.keys.remove(index);
         let _gone = self.slab.remove(key);
     }
 }

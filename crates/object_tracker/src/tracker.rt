@@ -11,7 +11,7 @@ ghost use Rattle.machine_defs.specs.Entries.{released, borrow_start, free_start}
 use crate::heap::free_start;
 use crate::listing::{add, borrow_start, end_all, has, held, holds, set_live};
 use crate::ordered::Ordered;
-use crate::wanted::Wanted;
+use crate::query::Query;
 use nook_data::entries::{Entry, Released};
 use nook_data::limits::CONTEXTS;
 use nook_data::lists::{TryCopy, Word};
@@ -41,11 +41,12 @@ impl Model for Tracker {
 }
 
 impl Tracker {
-    /// The tracker of a domain as it begins, with a registration that is not live. The heap is what lies from
-    /// `heap_start` (2,048 to 4,096) to 4,095. It takes room for all entries that can stand.
+    /// The tracker of a new domain, with a registration that is not live. The heap is the words from
+    /// `heap_start` (2,048 to 4,096) to 4,095. It allocates room for the maximum number of entries.
     pub fn new(alloc: Global, heap_start: u32) -> Result<Tracker, NoMemory>
         requires { heap_start ≤ DATA_END }
-        ensures { IfOk result (λ made. made ≡ record { heap_start = heap_start; entries = opening_entries }) }
+        ensures { IfOk result
+            (λ made. made ≡ record { heap_start = heap_start; entries = opening_entries }) }
     {
         let mut entries = Ordered::new(alloc)?;
         entries.insert(0, Entry::Registration { live: false });
@@ -56,8 +57,8 @@ impl Tracker {
         })
     }
 
-    /// Gives 1 to 2,048 heap words to the driver: their start, the lowest there is. `None`, with nothing changed,
-    /// where no run of free words is long enough, or 64 heap and borrow entries stand.
+    /// Gives 1 to 2,048 heap words to the driver and returns their start, the lowest possible. `None`, with nothing
+    /// changed, if no run of free words is long enough, or there are already 64 heap and borrow entries.
     pub fn alloc(&mut self, n: u32) -> Option<Word>
         requires { n ≤ DATA_WORDS }
         ensures start { result ≡ free_start self.old.heap_start n self.old.entries }
@@ -70,14 +71,15 @@ impl Tracker {
         Some(start)
     }
 
-    /// The heap words that start there end; false exactly where none do.
+    /// Ends the heap words that start there; false exactly if there are none.
     pub fn free(&mut self, address: u32) -> bool
         ensures held { result ≡ list_any (is_heap_at address) self.old.entries }
-        ensures ended { self.new ≡ record self.old { entries = without_heap address self.old.entries } }
+        ensures ended { self.new
+            ≡ record self.old { entries = without_heap address self.old.entries } }
     {
-        let wanted = Wanted::Heap { start: address };
-        let held = has(&self.entries, wanted);
-        end_all(&mut self.entries, wanted);
+        let query = Query::Heap { start: address };
+        let held = has(&self.entries, query);
+        end_all(&mut self.entries, query);
         held
     }
 
@@ -85,7 +87,7 @@ impl Tracker {
     pub fn is_heap_start(&self, address: u32) -> bool
         ensures { result ≡ list_any (is_heap_at address) self.now.entries }
     {
-        has(&self.entries, Wanted::Heap { start: address })
+        has(&self.entries, Query::Heap { start: address })
     }
 
     /// Gives 64 heap words to the copy of a kernel object up to 12, as `alloc` does.
@@ -95,14 +97,17 @@ impl Tracker {
         ensures start { result ≡ free_start self.old.heap_start OBJECT_WORDS self.old.entries }
         ensures none { IfNone result (self.new ≡ self.old) }
         ensures some { IfSome result (λ start. self.new
-            ≡ record self.old { entries = with_entry (Entry.Borrow object start) self.old.entries }) }
+            ≡ record self.old {
+              entries = with_entry
+                  (Entry.Borrow object start) self.old.entries;
+            }) }
     {
         let start = free_start(&self.entries, self.heap_start, OBJECT_WORDS)?;
         add(&mut self.entries, Entry::Borrow { object, start });
         Some(start)
     }
 
-    /// The copy of the object ends: its start, `None`, with nothing changed, exactly where the
+    /// Ends the copy of the object and returns its start; `None`, with nothing changed, exactly if the
     /// object is not borrowed.
     pub fn give_back(&mut self, object: u32) -> Option<Word>
         ensures start { result ≡ borrow_start object self.old.entries }
@@ -112,7 +117,7 @@ impl Tracker {
             ≡ record self.old { entries = without_borrow object self.old.entries }) }
     {
         let start = borrow_start(&self.entries, object)?;
-        end_all(&mut self.entries, Wanted::Borrow { object });
+        end_all(&mut self.entries, Query::Borrow { object });
         Some(start)
     }
 
@@ -121,14 +126,18 @@ impl Tracker {
         ensures borrowed { result ≡ list_any (is_borrow_of object) self.now.entries }
         ensures known { IsTrue result → object ≤ LAST_OBJECT }
     {
-        has(&self.entries, Wanted::Borrow { object })
+        has(&self.entries, Query::Borrow { object })
     }
 
-    /// The context's buffer is lent, for writing or for reading. The context is at most 16 and has none.
+    /// Lends the context's buffer, for writing or for reading. The context is at most 16 and has no buffer lent.
     pub fn begin_buffer(&mut self, context: u8, writable: bool)
         requires context { context < CONTEXTS }
         requires none { list_any (is_buffer_of context) self.old.entries ≡ false }
-        ensures { self.new ≡ record self.old { entries = with_entry (Entry.Buffer context writable) self.old.entries } }
+        ensures { self.new ≡
+            record self.old {
+              entries = with_entry
+                  (Entry.Buffer context writable) self.old.entries;
+            } }
     {
         add(&mut self.entries, Entry::Buffer { context, writable });
     }
@@ -137,27 +146,27 @@ impl Tracker {
     pub fn has_buffer(&self, context: u8) -> bool
         ensures { result ≡ list_any (is_buffer_of context) self.now.entries }
     {
-        has(&self.entries, Wanted::Buffer { context })
+        has(&self.entries, Query::Buffer { context })
     }
 
-    /// The context's buffer is lent no more.
+    /// Ends the loan of the context's buffer.
     pub fn end_buffer(&mut self, context: u8)
         ensures { self.new ≡ record self.old { entries = without_buffer context self.old.entries } }
     {
-        end_all(&mut self.entries, Wanted::Buffer { context });
+        end_all(&mut self.entries, Query::Buffer { context });
     }
 
-    /// The registration is live from now on; false exactly where it was so already.
+    /// Makes the registration live; false exactly if it was live already.
     pub fn register(&mut self) -> bool
         ensures first { result ≡ not (is_registered self.old.entries) }
         ensures live { self.new ≡ record self.old { entries = registered true self.old.entries } }
     {
-        let was_live = has(&self.entries, Wanted::Live);
+        let was_live = has(&self.entries, Query::Live);
         set_live(&mut self.entries, true);
         !was_live
     }
 
-    /// The registration is not live from now on.
+    /// Makes the registration not live.
     pub fn unregister(&mut self)
         ensures { self.new ≡ record self.old { entries = registered false self.old.entries } }
     {
@@ -168,10 +177,10 @@ impl Tracker {
     pub fn is_registered(&self) -> bool
         ensures { result ≡ is_registered self.now.entries }
     {
-        has(&self.entries, Wanted::Live)
+        has(&self.entries, Query::Live)
     }
 
-    /// Whether this very entry stands in the list.
+    /// Whether exactly this entry is in the list.
     pub fn holds(&self, entry: &Entry) -> bool
         ensures { IsTrue result ↔ Contains self.now.entries entry.now }
     {
@@ -185,14 +194,15 @@ impl Tracker {
         self.heap_start == other.heap_start && self.entries.is_same(&other.entries)
     }
 
-    /// Everything but the registration ends; what ended, in order.
+    /// Ends everything but the registration; returns what ended, in order.
     pub fn collect(&mut self) -> Result<Released, NoMemory>
         ensures released { IfOk result (λ ended. ended ≡ released self.old.entries) }
-        ensures ok { OnOk result (self.new ≡ record self.old { entries = collected self.old.entries }) }
+        ensures ok { OnOk result
+            (self.new ≡ record self.old { entries = collected self.old.entries }) }
         ensures err { OnErr result (self.new ≡ self.old) }
     {
         let ended = held(self.alloc, &self.entries)?;
-        end_all(&mut self.entries, Wanted::Held);
+        end_all(&mut self.entries, Query::Held);
         Ok(ended)
     }
 }

@@ -23,8 +23,8 @@ AreStamped (journal ∷ journals) (own ∷ stamps) = IsStamped journal own × Ar
 -- ---- threads
 
 module _ (journals : List (List Event)) (stamps : List (List ℕ)) where
-  -- a thread's operations have receipts in their parts' journals, and each was invoked later than the answer of the one
-  -- before, whatever the parts of the two: the first was invoked later than `last`
+  -- a thread's operations have receipts in their parts' journals, and each was invoked after the answer of the one
+  -- before, whatever the parts of the two; the first was invoked later than `last`
   abbrev pub Follow : ℕ → ℕ → List (ℕ × Op) → List Receipt → Type 0
   Follow thread last [] [] = Unit {0}
   Follow thread last [] (receipt ∷ receipts) = ⊥
@@ -33,12 +33,12 @@ module _ (journals : List (List Event)) (stamps : List (List ℕ)) where
       IsReceipt (journal_on journals part) thread op receipt × (last < stamp_at stamps part receipt.at_invoke)
       × Follow thread (stamp_at stamps part receipt.at_reply) ops receipts
 
-  -- a thread's script was worked off in its order, over all parts
+  -- a thread's script was carried out in its order, over all parts
   pub record IsInOrder (thread : ℕ) (ops : List (ℕ × Op)) : Type 0 where
     pub receipts : List Receipt
     pub follow : Follow thread 0 ops receipts
 
-  -- so was each thread's, from one on
+  -- the script of each thread was, from this thread on
   abbrev pub AreInOrder : ℕ → List ThreadSpec → Type 0
   AreInOrder thread [] = Unit {0}
   AreInOrder thread (t ∷ threads) = IsInOrder thread t.ops × AreInOrder (suc thread) threads
@@ -46,7 +46,7 @@ module _ (journals : List (List Event)) (stamps : List (List ℕ)) where
 -- ---- the whole
 
 -- The journals are one run: by one clock over all parts each event has a stamp, the stamps rise in each journal, and
--- each thread invokes an operation later than it was answered the one before.
+-- each thread invokes an operation after the one before was answered.
 pub record AreOneRun (threads : List ThreadSpec) (journals : List (List Event)) : Type 0 where
   pub stamps : List (List ℕ)
   pub stamped : AreStamped journals stamps

@@ -12,8 +12,8 @@ use Rattle.run_laws.specs.Fitting.{AllFit, fitting_text}
 abbrev pub lines_in : List ℕ → ℕ
 lines_in text = count_by (λ b. b == 10) text
 
--- The number of the line of the first event that is left, in the order of the report; none if nothing is left. The
--- section of part `part`, the first of these, begins in line `line`, and the line of its event number 1 is the next.
+-- The line number of the first event left, in the order of the report; none if no event is left. The section of part
+-- `part`, the first of these, begins in line `line`, and its event number 1 is in the next line.
 abbrev pub first_left : ℕ → ℕ → List PartSpec → List (List Event) → List (List Event) → Option ℕ
 first_left line part (spec ∷ specs) (journal ∷ journals) ([] ∷ left) =
     first_left (line + lines_in (part_text part spec journal)) (suc part) specs journals left
@@ -21,8 +21,8 @@ first_left line part (spec ∷ specs) (journal ∷ journals) ((event ∷ events)
     Some (line + suc (length journal - length (event ∷ events)))
 first_left line part _ _ _ = None
 
--- Events are taken as long as one may be, in any order: this is the line of the first event that is left then. By a law
--- it is the same in whatever order they are taken.
+-- Events are taken in any order as long as one may be taken: this is the line of the first event left then. By a law it
+-- is the same for every order.
 pub record IsOutOfOrder (scenario : Scenario) (journals : List (List Event)) (line : Option ℕ) : Type 0 where
   pub order : List ℕ
   pub end : Taking
@@ -30,8 +30,8 @@ pub record IsOutOfOrder (scenario : Scenario) (journals : List (List Event)) (li
   pub stuck : IsStuck end
   pub line_is : line ≡ first_left 1 0 scenario.parts journals end.left
 
--- the report is that of these journals, which fit the scenario each by itself, and this is the line of the first event
--- that no order of steps reaches
+-- the report is that of these journals, each of which fits the scenario by itself, and this is the line of the first
+-- event that no order of steps reaches
 pub record FitsByParts (scenario : Scenario) (report : List ℕ) (line : Option ℕ) : Type 0 where
   pub journals : List (List Event)
   pub fit : AllFit scenario.threads 0 scenario.parts journals
@@ -39,11 +39,11 @@ pub record FitsByParts (scenario : Scenario) (report : List ℕ) (line : Option 
   pub out_of_order : IsOutOfOrder scenario journals line
 
 -- given the first line that does not fit by itself, the line that an audit names
-abbrev pub FindsBehind : Scenario → List ℕ → Option ℕ → Option ℕ → Type 0
-FindsBehind scenario report (Some number) line = line ≡ Some number
-FindsBehind scenario report None line = FitsByParts scenario report line
+abbrev pub FindsAfter : Scenario → List ℕ → Option ℕ → Option ℕ → Type 0
+FindsAfter scenario report (Some number) line = line ≡ Some number
+FindsAfter scenario report None line = FitsByParts scenario report line
 
 -- The number of the first line of a report that does not fit the scenario, from 1; if each line fits by itself, that of
 -- the first event that no order of steps reaches; none if there is no such event either.
 abbrev pub Finds : Scenario → List ℕ → Option ℕ → Type 0
-Finds scenario report line = FindsBehind scenario report (audited scenario report) line
+Finds scenario report line = FindsAfter scenario report (audited scenario report) line

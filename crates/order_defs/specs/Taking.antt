@@ -1,4 +1,4 @@
--- In which order the events of several journals can be taken, where each thread has one open operation at most.
+-- The orders in which the events of several journals can be taken, if each thread has at most one open operation.
 use Rattle.std.specs.Prelude.{◌≡◌, ℕ, Some, None, List, [], ◌∷◌, map, slice_get, slice_index_or, slice_set}
 use Rattle.std.specs.List.{AllByRecursion}
 use Rattle.nook_data.specs.declared.calls.Op.{Op}
@@ -9,7 +9,7 @@ use Rattle.run_defs.specs.Simulation.{ThreadState, opening_thread, threads_after
 
 -- ---- one event
 
--- what is left of each part's journal, and the threads behind the events that were taken
+-- the events left of each part's journal, and the threads after the events that were taken
 pub record Taking : Type 0 where
   pub left : List (List Event)
   pub threads : List ThreadState
@@ -26,26 +26,26 @@ pub record IsNextOf (threads : List ThreadState) (thread part : ℕ) (op : Op) :
   pub free : t.waiting ≡ None
   pub next : t.rest ≡ (part, op) ∷ more
 
--- an invocation may be taken where it is its thread's next, every other event at once
+-- an invocation may be taken if it is its thread's next, every other event at once
 abbrev pub IsTimely : List ThreadState → ℕ → Event → Type 0
 IsTimely threads part (event.Invoke call thread op answer) = IsNextOf threads thread part op
 IsTimely threads part e = Unit {0}
 
--- the first event that is left of a part may be taken
+-- the first event left of a part may be taken
 pub record MayTake (s : Taking) (part : ℕ) : Type 0 where
   pub event : Event
   pub rest : List Event
   pub at : slice_get s.left part ≡ Some (event ∷ rest)
   pub timely : IsTimely s.threads part event
 
--- behind that event
+-- the state after that event
 abbrev pub after_taking : Taking → ℕ → Event → List Event → Taking
 after_taking s part e rest =
     record { left = slice_set s.left part rest; threads = threads_after 0 part e s.threads }
 
 -- ---- an order
 
--- one event of each of these parts after another leads from one state to another
+-- taking one event of each of these parts, one after another, leads from one state to another
 abbrev pub Leads : Taking → List ℕ → Taking → Type 0
 Leads s [] end = s ≡ end
 Leads s (part ∷ order) end = (may : MayTake s part) × Leads (after_taking s part may.event may.rest) order end

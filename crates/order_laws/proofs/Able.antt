@@ -1,4 +1,4 @@
--- A step that a part may take is the choice of an actor, where the part knows what its threads wait for.
+-- A step that a part may take is the choice of an actor, if the part knows what its threads wait for.
 use Rattle.std.proofs.Common.{◌≡◌, ℕ, zero, suc, ◌+◌, ◌*◌, ◌==◌, ◌&&◌, not, is_some, if◌then◌else◌, Bool, true, false, Option, Some, None, List, [], ◌∷◌, length, slice_get, refl, sym, ap, ◌∙◌, subst, arith, eqb-true, true≢false}
 use Rattle.std.proofs.lemmas.Bool.{and_parts}
 use Rattle.nook_data.specs.declared.calls.CallEntry.{CallEntry}
@@ -15,7 +15,7 @@ use Rattle.part_defs.specs.Runs.{if_enabled, next_for, next_recovery, step_of}
 use Rattle.part_defs.specs.Stages.{stage_due}
 use Rattle.part_defs.specs.State.{PartState}
 use Rattle.part_defs.specs.Steps.{can_burst, enabled, is_driven, is_inside, is_ready, is_running}
-use Rattle.part_laws.proofs.Places.{split}
+use Rattle.part_laws.proofs.Indices.{split}
 use Rattle.run_defs.specs.Simulation.{RunningPart, Simulation, ThreadState, Waiting, arrival, choices_of, going_on, invocation}
 use Rattle.run_defs.proofs.ChoicesInOrder.{with_choice, with_invocation, with_thread}
 use Rattle.run_laws.proofs.Numbers.{number, number_found}

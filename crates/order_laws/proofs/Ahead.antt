@@ -1,16 +1,16 @@
--- What is to come of a thread: its operations that are left follow one another behind the answer of its open call; and
--- so it stays when the event with the least stamp is taken.
+-- What is still to come of a thread: its remaining operations follow one another after the answer of its open call.
+-- This stays so when the event with the least stamp is taken.
 use Rattle.std.proofs.Common.{drop, ◌≡◌, ◌⊎◌, inl, inr, ℕ, suc, ◌<◌, ◌≤◌, ◌==◌, if◌then◌else◌, Bool, true, false, Option, Some, None, List, [], ◌∷◌, refl, sym, ap, ◌∙◌, subst, arith, eqb-true, eq-eqb, true≢false}
 use Rattle.desk_like.specs.Desks.{IsAt, IsInvoke, IsReceipt, IsReply}
 use Rattle.nook_data.specs.Answers.{answer_at}
-use Rattle.nook_data.specs.Places.{at_number}
+use Rattle.nook_data.specs.Numbered.{at_number}
 use Rattle.nook_data.specs.declared.calls.Answer.{Answer}
 use Rattle.nook_data.specs.declared.calls.Op.{Op}
 use Rattle.nook_data.specs.declared.desks.Receipt.{Receipt}
 use Rattle.nook_data.specs.declared.steps.Event.{Event}
 use Rattle.nook_data.specs.declared.steps.Event.TheVariants as event
 use Rattle.nook_data.proofs.Options.{none_is_some, same_inside}
-use Rattle.part_laws.proofs.Places.{split}
+use Rattle.part_laws.proofs.Indices.{split}
 use Rattle.run_defs.specs.Simulation.{ThreadState, Waiting, started, thread_after}
 use Rattle.run_defs.proofs.RunChanges.{settled, settled_by}
 use Rattle.threaded_run.specs.Others.{is_invocation_by}
@@ -28,25 +28,25 @@ one_more_here n k = rw (eq-eqb k k refl) refl
 pub one_more_there : (n : ℕ → ℕ) (k part : ℕ) → (part == k) ≡ false → one_more n k part ≡ n part
 one_more_there n k part h = rw h refl
 
-pub no_fewer : (n : ℕ → ℕ) (k part place : ℕ) → one_more n k part < place → n part < place
-no_fewer n k part place l = split (part == k)
+pub no_fewer : (n : ℕ → ℕ) (k part number : ℕ) → one_more n k part < number → n part < number
+no_fewer n k part number l = split (part == k)
     (λ e.
     let is : one_more n k part ≡ suc (n k) = rw e refl in
     let same : n part ≡ n k = ap n (eqb-true part k e) in
-    (let far : suc (n k) < place = subst (λ (m : ℕ). m < place) is l in omega arith))
-    (λ e. subst (λ (m : ℕ). m < place) (one_more_there n k part e) l)
+    (let far : suc (n k) < number = subst (λ (m : ℕ). m < number) is l in omega arith))
+    (λ e. subst (λ (m : ℕ). m < number) (one_more_there n k part e) l)
 
-pub one_behind : (n : ℕ → ℕ) (k part place : ℕ) → n part < place → (part ≡ k → place ≡ suc (n k) → ⊥) → one_more n k part < place
-one_behind n k part place l apart = split (part == k)
+pub one_after : (n : ℕ → ℕ) (k part number : ℕ) → n part < number → (part ≡ k → number ≡ suc (n k) → ⊥) → one_more n k part < number
+one_after n k part number l apart = split (part == k)
     (λ e.
     let is : suc (n k) ≡ one_more n k part = rw e refl in
     let part_is : part ≡ k = eqb-true part k e in
-    let low : n k < place = subst (λ (m : ℕ). n m < place) part_is l in
-    subst (λ (m : ℕ). m < place) is (next (n k) place low (apart part_is)))
-    (λ e. subst (λ (m : ℕ). m < place) (sym (one_more_there n k part e)) l)
+    let low : n k < number = subst (λ (m : ℕ). n m < number) part_is l in
+    subst (λ (m : ℕ). m < number) is (next (n k) number low (apart part_is)))
+    (λ e. subst (λ (m : ℕ). m < number) (sym (one_more_there n k part e)) l)
   where
-    next : (m place : ℕ) → m < place → (place ≡ suc m → ⊥) → suc m < place
-    next m place l apart = omega arith
+    next : (m number : ℕ) → m < number → (number ≡ suc m → ⊥) → suc m < number
+    next m number l apart = omega arith
 
 -- ---- invocations
 
@@ -60,13 +60,13 @@ invoke_by call i op (event.Burst context c burst count end acts a failure) h = a
 invoke_by call i op (event.Stage stage answers released) h = absurd h
 invoke_by call i op (event.Arrive frame kept) h = absurd h
 
--- the part's operation was invoked at the place
+-- an operation on the part was invoked by the event with this number
 abbrev pub IsInvokedIn : ℕ → ℕ → List (ℕ × Op) → List Receipt → Type 0
-IsInvokedIn part place [] receipts = ⊥
-IsInvokedIn part place (o ∷ ops) [] = ⊥
-IsInvokedIn part place ((p, op) ∷ ops) (r ∷ receipts) = ((p ≡ part) × (r.at_invoke ≡ place)) ⊎ IsInvokedIn part place ops receipts
+IsInvokedIn part number [] receipts = ⊥
+IsInvokedIn part number (o ∷ ops) [] = ⊥
+IsInvokedIn part number ((p, op) ∷ ops) (r ∷ receipts) = ((p ≡ part) × (r.at_invoke ≡ number)) ⊎ IsInvokedIn part number ops receipts
 
--- the operations are invoked behind the events that were taken
+-- the operations are invoked after the events that were taken
 abbrev pub AreToCome : (ℕ → ℕ) → List (ℕ × Op) → List Receipt → Type 0
 AreToCome n [] receipts = Unit {0}
 AreToCome n (o ∷ ops) [] = Unit {0}
@@ -77,58 +77,58 @@ still_to_come : (n : ℕ → ℕ) (k : ℕ) (ops : List (ℕ × Op)) (receipts :
 still_to_come n k [] receipts h apart = tt
 still_to_come n k (o ∷ ops) [] h apart = tt
 still_to_come n k ((part, op) ∷ ops) (r ∷ receipts) h apart = (
-  one_behind n k part r.at_invoke h.0 (λ same at. apart (inl (same, at))),
+  one_after n k part r.at_invoke h.0 (λ same at. apart (inl (same, at))),
   still_to_come n k ops receipts h.1 (λ x. apart (inr x)),
 )
 
 module _ (journals : List (List Event)) (stamps : List (List ℕ)) (stamped : AreStamped journals stamps) where
   -- an operation that follows is invoked later
-  follows_later : (i last : ℕ) (ops : List (ℕ × Op)) (receipts : List Receipt) (part place : ℕ) → Follow journals stamps i last ops receipts
-      → IsInvokedIn part place ops receipts → last < stamp_at stamps part place
-  follows_later i last [] receipts part place f h = absurd h
-  follows_later i last (o ∷ ops) [] part place f h = absurd h
-  follows_later i last ((p, op) ∷ ops) (r ∷ receipts) part place f (inl e) =
-      subst (λ (q : ℕ). last < stamp_at stamps q place) e.0 (subst (λ (m : ℕ). last < stamp_at stamps p m) e.1 f.1)
-  follows_later i last ((p, op) ∷ ops) (r ∷ receipts) part place f (inr h) =
-      let more : stamp_at stamps p r.at_reply < stamp_at stamps part place = follows_later i (stamp_at stamps p r.at_reply) ops receipts part place f.2 h in
+  follows_later : (i last : ℕ) (ops : List (ℕ × Op)) (receipts : List Receipt) (part number : ℕ) → Follow journals stamps i last ops receipts
+      → IsInvokedIn part number ops receipts → last < stamp_at stamps part number
+  follows_later i last [] receipts part number f h = absurd h
+  follows_later i last (o ∷ ops) [] part number f h = absurd h
+  follows_later i last ((p, op) ∷ ops) (r ∷ receipts) part number f (inl e) =
+      subst (λ (q : ℕ). last < stamp_at stamps q number) e.0 (subst (λ (m : ℕ). last < stamp_at stamps p m) e.1 f.1)
+  follows_later i last ((p, op) ∷ ops) (r ∷ receipts) part number f (inr h) =
+      let more : stamp_at stamps p r.at_reply < stamp_at stamps part number = follows_later i (stamp_at stamps p r.at_reply) ops receipts part number f.2 h in
       let mid : stamp_at stamps p r.at_invoke ≤ stamp_at stamps p r.at_reply = answered_later journals stamps stamped p i op r f.0 in
       let first : last < stamp_at stamps p r.at_invoke = f.1 in
       omega arith
 
-  -- and its event is an invocation of the thread's
-  follows_invoked : (i last : ℕ) (ops : List (ℕ × Op)) (receipts : List Receipt) (part place : ℕ) → Follow journals stamps i last ops receipts
-      → IsInvokedIn part place ops receipts → IsAt (journal_on journals part) place (IsInvocationBy i)
-  follows_invoked i last [] receipts part place f h = absurd h
-  follows_invoked i last (o ∷ ops) [] part place f h = absurd h
-  follows_invoked i last ((p, op) ∷ ops) (r ∷ receipts) part place f (inl e) =
+  -- and its event is an invocation by the thread
+  follows_invoked : (i last : ℕ) (ops : List (ℕ × Op)) (receipts : List Receipt) (part number : ℕ) → Follow journals stamps i last ops receipts
+      → IsInvokedIn part number ops receipts → IsAt (journal_on journals part) number (IsInvocationBy i)
+  follows_invoked i last [] receipts part number f h = absurd h
+  follows_invoked i last (o ∷ ops) [] part number f h = absurd h
+  follows_invoked i last ((p, op) ∷ ops) (r ∷ receipts) part number f (inl e) =
       let at : IsAt (journal_on journals p) r.at_invoke (IsInvocationBy i) =
       record { event = f.0.invoked.event; there = f.0.invoked.there; is = invoke_by r.call i op f.0.invoked.event f.0.invoked.is } in
-      subst (λ (q : ℕ). IsAt (journal_on journals q) place (IsInvocationBy i)) e.0 (subst (λ (m : ℕ). IsAt (journal_on journals p) m (IsInvocationBy i)) e.1 at)
-  follows_invoked i last ((p, op) ∷ ops) (r ∷ receipts) part place f (inr h) =
-      follows_invoked i (stamp_at stamps p r.at_reply) ops receipts part place f.2 h
+      subst (λ (q : ℕ). IsAt (journal_on journals q) number (IsInvocationBy i)) e.0 (subst (λ (m : ℕ). IsAt (journal_on journals p) m (IsInvocationBy i)) e.1 at)
+  follows_invoked i last ((p, op) ∷ ops) (r ∷ receipts) part number f (inr h) =
+      follows_invoked i (stamp_at stamps p r.at_reply) ops receipts part number f.2 h
 
-  -- ---- what is to come of a thread
+  -- ---- what is still to come of a thread
 
-  -- an open call is answered behind the events that were taken, no later than `last`
+  -- an open call is answered after the events that were taken, no later than `last`
   pub record HasReply (n : ℕ → ℕ) (last : ℕ) (w : Waiting) : Type 0 where
-    pub place : ℕ
+    pub number : ℕ
     pub answer : Answer
-    pub later : n w.part < place
-    pub there : IsAt (journal_on journals w.part) place (IsReply w.call answer)
-    pub before : stamp_at stamps w.part place ≤ last
+    pub later : n w.part < number
+    pub there : IsAt (journal_on journals w.part) number (IsReply w.call answer)
+    pub before : stamp_at stamps w.part number ≤ last
 
   abbrev pub HasReplyIfOpen : (ℕ → ℕ) → ℕ → Option Waiting → Type 0
   HasReplyIfOpen n last None = Unit {0}
   HasReplyIfOpen n last (Some w) = HasReply n last w
 
-  -- where so many events of each part were taken: a thread's operations that are left are invoked behind them, one after
-  -- another, and behind the answer of its open call; and it invokes no others there
+  -- after these numbers of events of each part: a thread's remaining operations are invoked later, one after another
+  -- and after the answer of its open call, and it invokes no others later
   pub record IsAhead (i : ℕ) (n : ℕ → ℕ) (rest : List (ℕ × Op)) (waiting : Option Waiting) : Type 0 where
     pub last : ℕ
     pub receipts : List Receipt
     pub follow : Follow journals stamps i last rest receipts
     pub to_come : AreToCome n rest receipts
-    pub all : (part place : ℕ) → n part < place → IsAt (journal_on journals part) place (IsInvocationBy i) → IsInvokedIn part place rest receipts
+    pub all : (part number : ℕ) → n part < number → IsAt (journal_on journals part) number (IsInvocationBy i) → IsInvokedIn part number rest receipts
     pub reply : HasReplyIfOpen n last waiting
 
   -- ---- the event with the least stamp
@@ -136,14 +136,14 @@ module _ (journals : List (List Event)) (stamps : List (List ℕ)) (stamped : Ar
   -- the event is the next of part k, and no event that was not taken has a lower stamp
   pub record IsNextEvent (n : ℕ → ℕ) (k : ℕ) (e : Event) : Type 0 where
     pub here : at_number (suc (n k)) (journal_on journals k) ≡ Some e
-    pub least : (part place : ℕ) (x : Event) → n part < place → at_number place (journal_on journals part) ≡ Some x
-        → stamp_at stamps k (suc (n k)) ≤ stamp_at stamps part place
+    pub least : (part number : ℕ) (x : Event) → n part < number → at_number number (journal_on journals part) ≡ Some x
+        → stamp_at stamps k (suc (n k)) ≤ stamp_at stamps part number
 
   module _ (n : ℕ → ℕ) (k : ℕ) (e : Event) (next : IsNextEvent n k e) where
     same_event : (P : Event → Type 0) → IsAt (journal_on journals k) (suc (n k)) P → P e
     same_event P at = subst P (same_inside (sym at.there ∙ next.here)) at.is
 
-    -- the first operation that is left was invoked by the event
+    -- the event invoked the first remaining operation
     pub record IsFirst (i : ℕ) (rest : List (ℕ × Op)) (receipts : List Receipt) : Type 0 where
       pub op : Op
       pub more : List (ℕ × Op)
@@ -152,9 +152,9 @@ module _ (journals : List (List Event)) (stamps : List (List ℕ)) (stamped : Ar
       pub rest_is : rest ≡ (k, op) ∷ more
       pub at : receipt.at_invoke ≡ suc (n k)
       pub is : IsReceipt (journal_on journals k) i op receipt
-      pub behind : Follow journals stamps i (stamp_at stamps k receipt.at_reply) more others
+      pub rest_after : Follow journals stamps i (stamp_at stamps k receipt.at_reply) more others
       pub to_come : AreToCome n more others
-      pub all : (part place : ℕ) → IsInvokedIn part place rest receipts → ((part ≡ k) × (place ≡ suc (n k))) ⊎ IsInvokedIn part place more others
+      pub all : (part number : ℕ) → IsInvokedIn part number rest receipts → ((part ≡ k) × (number ≡ suc (n k))) ⊎ IsInvokedIn part number more others
 
     first_invoked : (i last : ℕ) (rest : List (ℕ × Op)) (receipts : List Receipt) → Follow journals stamps i last rest receipts → AreToCome n rest receipts
         → IsInvokedIn k (suc (n k)) rest receipts → IsFirst i rest receipts
@@ -168,15 +168,15 @@ module _ (journals : List (List Event)) (stamps : List (List ℕ)) (stamped : Ar
       rest_is = ap {B = List (ℕ × Op)} (λ (q : ℕ). (q, op) ∷ rest) same.0;
       at = same.1;
       is = subst (λ (q : ℕ). IsReceipt (journal_on journals q) i op r) same.0 f.0;
-      behind = subst (λ (q : ℕ). Follow journals stamps i (stamp_at stamps q r.at_reply) rest receipts) same.0 f.2;
+      rest_after = subst (λ (q : ℕ). Follow journals stamps i (stamp_at stamps q r.at_reply) rest receipts) same.0 f.2;
       to_come = c.1;
-      all = λ part place x. by_place part place x;
+      all = λ part number x. by_position part number x;
     }
       where
-        by_place : (part place : ℕ) → ((p ≡ part) × (r.at_invoke ≡ place)) ⊎ IsInvokedIn part place rest receipts
-            → ((part ≡ k) × (place ≡ suc (n k))) ⊎ IsInvokedIn part place rest receipts
-        by_place part place (inl x) = inl (sym x.0 ∙ same.0, sym x.1 ∙ same.1)
-        by_place part place (inr x) = inr x
+        by_position : (part number : ℕ) → ((p ≡ part) × (r.at_invoke ≡ number)) ⊎ IsInvokedIn part number rest receipts
+            → ((part ≡ k) × (number ≡ suc (n k))) ⊎ IsInvokedIn part number rest receipts
+        by_position part number (inl x) = inl (sym x.0 ∙ same.0, sym x.1 ∙ same.1)
+        by_position part number (inr x) = inr x
     first_invoked i last ((p, op) ∷ rest) (r ∷ receipts) f c (inr h) =
         let late : stamp_at stamps k (suc (n k)) ≤ stamp_at stamps p r.at_invoke = next.least p r.at_invoke f.0.invoked.event c.0 f.0.invoked.there in
         let mid : stamp_at stamps p r.at_invoke ≤ stamp_at stamps p r.at_reply = answered_later journals stamps stamped p i op r f.0 in
@@ -195,11 +195,11 @@ module _ (journals : List (List Event)) (stamps : List (List ℕ)) (stamped : Ar
     pub invokes_first : (i : ℕ) (rest : List (ℕ × Op)) (w : Option Waiting) (h : IsAhead i n rest w) → IsInvocationBy i e → IsFirst i rest h.receipts
     invokes_first i rest w h is = first_invoked i h.last rest h.receipts h.follow h.to_come (mine i rest w h is)
 
-    -- an answer that is to come is no earlier than the event
+    -- an answer still to come is no earlier than the event
     reply_late : (last : ℕ) (w : Waiting) → HasReply n last w → stamp_at stamps k (suc (n k)) ≤ last
     reply_late last w r =
-        let late : stamp_at stamps k (suc (n k)) ≤ stamp_at stamps w.part r.place = next.least w.part r.place r.there.event r.later r.there.there in
-        let before : stamp_at stamps w.part r.place ≤ last = r.before in
+        let late : stamp_at stamps k (suc (n k)) ≤ stamp_at stamps w.part r.number = next.least w.part r.number r.there.event r.later r.there.there in
+        let before : stamp_at stamps w.part r.number ≤ last = r.before in
         omega arith
 
     pub invokes_free : (i : ℕ) (rest : List (ℕ × Op)) (w : Option Waiting) → IsAhead i n rest w → IsInvocationBy i e → w ≡ None
@@ -209,15 +209,15 @@ module _ (journals : List (List Event)) (stamps : List (List ℕ)) (stamped : Ar
         let before : h.last < stamp_at stamps k (suc (n k)) = follows_later i h.last rest h.receipts k (suc (n k)) h.follow (mine i rest (Some w) h is) in
         absurd (omega arith)
 
-    -- ---- the thread behind the event
+    -- ---- the thread after the event
 
-    -- the thread behind the event, but for its answer: the open call may be answered by the event
+    -- the thread after the event, except for its answer: the event may answer the open call
     record IsBegun (i : ℕ) (rest : List (ℕ × Op)) (waiting : Option Waiting) : Type 0 where
       last : ℕ
       receipts : List Receipt
       follow : Follow journals stamps i last rest receipts
       to_come : AreToCome (one_more n k) rest receipts
-      all : (part place : ℕ) → one_more n k part < place → IsAt (journal_on journals part) place (IsInvocationBy i) → IsInvokedIn part place rest receipts
+      all : (part number : ℕ) → one_more n k part < number → IsAt (journal_on journals part) number (IsInvocationBy i) → IsInvokedIn part number rest receipts
       reply : HasReplyIfOpen n last waiting
 
     not_here : (i : ℕ) (last : ℕ) (rest : List (ℕ × Op)) (receipts : List Receipt) → Follow journals stamps i last rest receipts → is_invocation_by i e ≡ false
@@ -230,18 +230,18 @@ module _ (journals : List (List Event)) (stamps : List (List ℕ)) (stamped : Ar
       receipts = h.receipts;
       follow = h.follow;
       to_come = still_to_come n k rest h.receipts h.to_come (not_here i h.last rest h.receipts h.follow not);
-      all = λ part place l at. h.all part place (no_fewer n k part place l) at;
+      all = λ part number l at. h.all part number (no_fewer n k part number l) at;
       reply = h.reply;
     }
 
     same_call : (call i : ℕ) (op : Op) (c t : ℕ) (o : Op) (a : Option Answer) → IsInvoke call i op (event.Invoke c t o a) → call ≡ c
     same_call call i op c t o a h = sym h.0
 
-    -- the reply of the call that the event invokes
+    -- the reply to the call that the event invokes
     first_reply : (i call : ℕ) (rest : List (ℕ × Op)) (receipts : List Receipt) (f : IsFirst i rest receipts) → f.receipt.call ≡ call
         → HasReply n (stamp_at stamps k f.receipt.at_reply) (record { part = k; call = call })
     first_reply i call rest receipts f same = record {
-      place = f.receipt.at_reply;
+      number = f.receipt.at_reply;
       answer = f.receipt.answer;
       later = above (n k) f.receipt.at_invoke f.receipt.at_reply f.at f.is.ordered;
       there = subst (λ (c : ℕ). IsAt (journal_on journals k) f.receipt.at_reply (IsReply c f.receipt.answer)) same f.is.answered;
@@ -263,33 +263,33 @@ module _ (journals : List (List Event)) (stamps : List (List ℕ)) (stamped : Ar
         subst (λ xs. IsBegun i (drop 1 xs) (Some (record { part = k; call = call }))) (sym f.rest_is) (record {
           last = stamp_at stamps k f.receipt.at_reply;
           receipts = f.others;
-          follow = f.behind;
+          follow = f.rest_after;
           to_come = still_to_come n k f.more f.others f.to_come (λ x. past _ _ late
-              (follows_later i (stamp_at stamps k f.receipt.at_reply) f.more f.others k (suc (n k)) f.behind x));
-          all = λ part place l at. further f.more f.others part place l (f.all part place (h.all part place (no_fewer n k part place l) at));
+              (follows_later i (stamp_at stamps k f.receipt.at_reply) f.more f.others k (suc (n k)) f.rest_after x));
+          all = λ part number l at. further f.more f.others part number l (f.all part number (h.all part number (no_fewer n k part number l) at));
           reply = first_reply i call rest h.receipts f same;
         })
       where
         past : (a b : ℕ) → a ≤ b → b < a → ⊥
         past a b l m = omega arith
 
-        further : (more : List (ℕ × Op)) (others : List Receipt) (part place : ℕ) → one_more n k part < place
-            → ((part ≡ k) × (place ≡ suc (n k))) ⊎ IsInvokedIn part place more others → IsInvokedIn part place more others
-        further more others part place l (inl x) =
-            let far : suc (n k) < place = subst (λ (m : ℕ). m < place) (ap (one_more n k) x.0 ∙ one_more_here n k) l in
-            let at : place ≡ suc (n k) = x.1 in
+        further : (more : List (ℕ × Op)) (others : List Receipt) (part number : ℕ) → one_more n k part < number
+            → ((part ≡ k) × (number ≡ suc (n k))) ⊎ IsInvokedIn part number more others → IsInvokedIn part number more others
+        further more others part number l (inl x) =
+            let far : suc (n k) < number = subst (λ (m : ℕ). m < number) (ap (one_more n k) x.0 ∙ one_more_here n k) l in
+            let at : number ≡ suc (n k) = x.1 in
             absurd (omega arith)
-        further more others part place l (inr x) = x
+        further more others part number l (inr x) = x
 
     -- the event answers the open call, or the answer is still to come
     still_reply : (last : ℕ) (w : Waiting) → HasReply n last w → ((w.part ≡ k) → answer_at w.call e ≡ None) → HasReply (one_more n k) last w
     still_reply last w r silent = record {
-      place = r.place;
+      number = r.number;
       answer = r.answer;
-      later = one_behind n k w.part r.place r.later (λ part_is place_is.
+      later = one_after n k w.part r.number r.later (λ part_is position_is.
           let at : IsAt (journal_on journals k) (suc (n k)) (IsReply w.call r.answer) =
-          subst (λ (m : ℕ). IsAt (journal_on journals k) m (IsReply w.call r.answer)) place_is
-          (subst (λ (q : ℕ). IsAt (journal_on journals q) r.place (IsReply w.call r.answer)) part_is r.there) in
+          subst (λ (m : ℕ). IsAt (journal_on journals k) m (IsReply w.call r.answer)) position_is
+          (subst (λ (q : ℕ). IsAt (journal_on journals q) r.number (IsReply w.call r.answer)) part_is r.there) in
           none_is_some (sym (silent part_is) ∙ same_event (IsReply w.call r.answer) at));
       there = r.there;
       before = r.before;
@@ -314,7 +314,7 @@ module _ (journals : List (List Event)) (stamps : List (List ℕ)) (stamped : Ar
           where
             here : (x : Bool) → x ≡ true → (if x then answer_at w.call e else None) ≡ answer_at w.call e
             here x h = rw h refl
-        by_answer (Some a) told =
+        by_answer (Some a) reported =
             record { last = b.last; receipts = b.receipts; follow = b.follow; to_come = b.to_come; all = b.all; reply = tt }
 
   -- ---- each thread
@@ -343,7 +343,7 @@ module _ (journals : List (List Event)) (stamps : List (List ℕ)) (stamped : Ar
   begun n k (event.Stage stage answers released) next i t h = not_begun n k (event.Stage stage answers released) next i t.rest t.waiting h refl
   begun n k (event.Arrive frame kept) next i t h = not_begun n k (event.Arrive frame kept) next i t.rest t.waiting h refl
 
-  -- what is to come of a thread behind the event with the least stamp
+  -- what is still to come of a thread after the event with the least stamp
   pub ahead_after : (n : ℕ → ℕ) (k : ℕ) (e : Event) (next : IsNextEvent n k e) (i : ℕ) (t : ThreadState) → IsAhead i n t.rest t.waiting
       → IsAhead i (one_more n k) (thread_after k e (started i k e t)).rest (thread_after k e (started i k e t)).waiting
   ahead_after n k e next i t h =

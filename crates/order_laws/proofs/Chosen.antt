@@ -7,31 +7,31 @@ use Rattle.nook_data.specs.declared.calls.Op.{Op}
 use Rattle.nook_data.specs.declared.steps.Step.{Step}
 use Rattle.nook_data.proofs.Options.{none_is_some, same_inside}
 use Rattle.part_defs.specs.Runs.{next_recovery}
-use Rattle.part_laws.proofs.Places.{split}
+use Rattle.part_laws.proofs.Indices.{split}
 use Rattle.run_defs.specs.Schedules.{Order, Picked, listed, listed_pick, picked}
 use Rattle.run_defs.specs.Simulation.{Choice, RunningPart, Simulation, ThreadState, Waiting, actor_of, arrival, choices_of, runs, stepped_by, taken}
 use Rattle.run_defs.proofs.ChoicesInOrder.{choices_in_order, part_choices, thread_choices, with_choice, with_invocation, with_thread}
 use Rattle.run_defs.proofs.RunChanges.{taken_by}
 
--- ---- the place of an actor
+-- ---- the index of an actor
 
 position_first : (p : ℕ → Bool) (x : ℕ) (xs : List ℕ) → p x ≡ true → position p (x ∷ xs) ≡ Some 0
 position_first p x xs h = rw h (rw (lt-ltb 0 (suc (length xs)) (omega arith)) refl)
 
-position_next : (p : ℕ → Bool) (x : ℕ) (xs : List ℕ) (place : ℕ) → p x ≡ false → position p xs ≡ Some place → position p (x ∷ xs) ≡ Some (suc place)
-position_next p x xs place h at = split (nat_lt (position_or_len p xs) (length xs))
+position_next : (p : ℕ → Bool) (x : ℕ) (xs : List ℕ) (index : ℕ) → p x ≡ false → position p xs ≡ Some index → position p (x ∷ xs) ≡ Some (suc index)
+position_next p x xs index h at = split (nat_lt (position_or_len p xs) (length xs))
     (λ low.
-    let is : position_or_len p xs ≡ place = same_inside (rw low at at) in
+    let is : position_or_len p xs ≡ index = same_inside (rw low at at) in
     let less : position_or_len p xs < length xs = ltb-true (position_or_len p xs) (length xs) low in
-    rw h (rw (lt-ltb (1 + position_or_len p xs) (suc (length xs)) (omega arith)) (ap {B = Option ℕ} (λ (k : ℕ). Some k) (one_more (position_or_len p xs) place is))))
+    rw h (rw (lt-ltb (1 + position_or_len p xs) (suc (length xs)) (omega arith)) (ap {B = Option ℕ} (λ (k : ℕ). Some k) (one_more (position_or_len p xs) index is))))
     (λ high. none_is_some (rw high at at))
   where
     one_more : (a b : ℕ) → a ≡ b → 1 + a ≡ suc b
     one_more a b e = omega arith
 
--- the actor stands among the choices with this one
+-- the actor is among the choices, with this choice
 abbrev pub Finds : ℕ → Choice → List Choice → Type 0
-Finds actor c choices = (place : ℕ) × (position (λ a. a == actor) (map actor_of choices) ≡ Some place) × (slice_get choices place ≡ Some c)
+Finds actor c choices = (index : ℕ) × (position (λ a. a == actor) (map actor_of choices) ≡ Some index) × (slice_get choices index ≡ Some c)
 
 finds_here : (actor : ℕ) (c : Choice) (choices : List Choice) → c.actor ≡ actor → Finds actor c (c ∷ choices)
 finds_here actor c choices h = (0, position_first (λ a. a == actor) c.actor (map actor_of choices) (eq-eqb c.actor actor h), refl)
@@ -165,31 +165,31 @@ arrival_found s k seat x at next =
 -- ---- one step of a listed schedule
 
 abbrev by_position : List ℕ → List ℕ → Option ℕ → Picked
-by_position picks actors o = elim o as (λ x. Picked) [ Some place ↦ record { place = place; order = listed picks } | None ↦ listed_pick picks actors ]
+by_position picks actors o = elim o as (λ x. Picked) [ Some index ↦ record { index = index; order = listed picks } | None ↦ listed_pick picks actors ]
 
-picked_is : (pick : ℕ) (picks actors : List ℕ) (place : ℕ) → position (λ a. a == pick) actors ≡ Some place
-    → picked (listed (pick ∷ picks)) actors ≡ record { place = place; order = listed picks }
+picked_is : (pick : ℕ) (picks actors : List ℕ) (index : ℕ) → position (λ a. a == pick) actors ≡ Some index
+    → picked (listed (pick ∷ picks)) actors ≡ record { index = index; order = listed picks }
 unfolding picked
-picked_is pick picks actors place h = ap (by_position picks actors) h
+picked_is pick picks actors index h = ap (by_position picks actors) h
 
 taken_is : (s : Simulation) (pick : ℕ) (picks : List ℕ) (choices : List Choice) (c : Choice) → s.order ≡ listed (pick ∷ picks) → Finds pick c choices
     → taken s choices ≡ stepped_by s (listed picks) c (slice_get s.parts c.part)
 unfolding taken
 taken_is s pick picks choices c order f =
-    ap (λ (p : Picked). taken_by s p.order (slice_get choices p.place))
+    ap (λ (p : Picked). taken_by s p.order (slice_get choices p.index))
     (ap (λ (o : Order). picked o (map actor_of choices)) order ∙ picked_is pick picks (map actor_of choices) f.0 f.1)
     ∙ ap (taken_by s (listed picks)) f.2
 
 abbrev run_by : ℕ → Simulation → List Choice → Simulation
 run_by m s choices = elim choices as (λ x. Simulation) [ [] ↦ s | (c ∷ more) ↦ runs m (taken s (c ∷ more)) ]
 
-runs_on : (m : ℕ) (s : Simulation) (choices : List Choice) → choices_of s ≡ choices → (place : ℕ) (c : Choice) → slice_get choices place ≡ Some c
+runs_on : (m : ℕ) (s : Simulation) (choices : List Choice) → choices_of s ≡ choices → (index : ℕ) (c : Choice) → slice_get choices index ≡ Some c
     → runs (suc m) s ≡ runs m (taken s choices)
 unfolding runs
-runs_on m s [] e place c h = none_is_some h
-runs_on m s (d ∷ choices) e place c h = ap (run_by m s) e
+runs_on m s [] e index c h = none_is_some h
+runs_on m s (d ∷ choices) e index c h = ap (run_by m s) e
 
--- the run goes on behind the choice of the actor that is picked
+-- the run continues after the choice of the picked actor
 pub runs_listed : (m : ℕ) (s : Simulation) (pick : ℕ) (picks : List ℕ) (c : Choice) → s.order ≡ listed (pick ∷ picks) → Finds pick c (choices_of s)
     → runs (suc m) s ≡ runs m (stepped_by s (listed picks) c (slice_get s.parts c.part))
 runs_listed m s pick picks c order f =

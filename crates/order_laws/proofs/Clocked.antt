@@ -1,11 +1,11 @@
--- Journals that can be taken event by event have one clock: the stamp of an event tells how many were taken up to it.
+-- Journals that can be taken event by event have one clock: the stamp of an event is the number of events up to it.
 use Rattle.std.proofs.Common.{drop, ◌≡◌, ℕ, zero, suc, ◌+◌, ◌<◌, ◌≤◌, ◌==◌, if◌then◌else◌, Bool, true, false, Option, Some, None, List, [], ◌∷◌, ◌++◌, length, map, slice_get, slice_index_or, slice_set, refl, sym, ap, ◌∙◌, subst, arith, append_assoc, append-nil, eqb-true, eq-eqb, ne_eqb}
 use Rattle.std.proofs.lemmas.Bool.{eqb-false}
 use Rattle.std.proofs.lemmas.List.{get_or-set_other, get_or-set_same}
 use Rattle.std.specs.List.{AllByRecursion}
 use Rattle.desk_like.specs.Desks.{IsAt, IsInvoke, IsReceipt, IsRisingFrom}
 use Rattle.nook_data.specs.Answers.{answer_at}
-use Rattle.nook_data.specs.Places.{at_number}
+use Rattle.nook_data.specs.Numbered.{at_number}
 use Rattle.nook_data.specs.declared.calls.Answer.{Answer}
 use Rattle.nook_data.specs.declared.calls.Op.{Op}
 use Rattle.nook_data.specs.declared.desks.Receipt.{Receipt}
@@ -13,12 +13,12 @@ use Rattle.nook_data.specs.declared.scenario.ThreadSpec.{ThreadSpec}
 use Rattle.nook_data.specs.declared.steps.Event.{Event}
 use Rattle.nook_data.specs.declared.steps.Event.TheVariants as event
 use Rattle.nook_data.proofs.Options.{none_is_some, same_inside}
-use Rattle.part_laws.proofs.Places.{split}
+use Rattle.part_laws.proofs.Indices.{split}
 use Rattle.run_defs.specs.Simulation.{ThreadState, Waiting, answers_of_thread, opening_thread, started, thread_after, threads_after}
 use Rattle.run_defs.proofs.RunChanges.{settled, settled_by}
 use Rattle.threaded_run.specs.Threaded.{answers_by}
 use Rattle.threaded_run.proofs.Counted.{if_false, if_true}
-use Rattle.threaded_run.proofs.Placed.{AreBehind, all_behind, first_behind, rest_behind}
+use Rattle.threaded_run.proofs.Numbered.{ComeAfter, all_after, first_after, rest_after}
 use Rattle.audited_runs.proofs.Shares.{AllMay, MayStart}
 use Rattle.desk_like.specs.Stamps.{stamp_at, stamps_on}
 use Rattle.order_defs.specs.OneClock.{AreInOrder, AreOneRun, AreStamped, Follow, journal_on}
@@ -29,12 +29,12 @@ use Rattle.order_laws.proofs.Ordered.{left_is}
 
 -- ---- the stamps of an order
 
--- the stamps of a part's events in an order, where so many events were taken before
+-- the stamps of a part's events in an order, after this many events
 abbrev pub stamps_from : ℕ → ℕ → List ℕ → List ℕ
 stamps_from part m [] = []
 stamps_from part m (k ∷ order) = if k == part then suc m ∷ stamps_from part (suc m) order else stamps_from part (suc m) order
 
--- the stamps of all parts' events, the first of them part `first`
+-- the stamps of all parts' events, from part `first` on
 abbrev pub stamps_of : ℕ → List (List Event) → List ℕ → List (List ℕ)
 stamps_of first [] order = []
 stamps_of first (journal ∷ journals) order = stamps_from first 0 order ∷ stamps_of (suc first) journals order
@@ -106,7 +106,7 @@ stamped_of order first (journal ∷ journals) count = (
     next : (n k : ℕ) → suc n + k ≡ n + suc k
     next n k = omega arith
 
--- ---- what a thread has behind it
+-- ---- what a thread has done
 
 module _ (journals : List (List Event)) (stamps : List (List ℕ)) where
   -- the stamp of the last answer
@@ -138,20 +138,20 @@ module _ (journals : List (List Event)) (stamps : List (List ℕ)) where
     answers_more last ((p, o) ∷ ops) (x ∷ receipts) f =
         ap {B = List (ℕ × Answer)} (λ xs. (p, x.answer) ∷ xs) (answers_more (stamp_at stamps p x.at_reply) ops receipts f.2)
 
-  -- a call was invoked behind what was answered, for the operation that comes next in the script
+  -- a call was invoked after the last answer, for the next operation of the script
   record IsOpenCall (i : ℕ) (n : ℕ → ℕ) (last : ℕ) (whole done rest : List (ℕ × Op)) (part call : ℕ) : Type 0 where
     op : Op
-    place : ℕ
+    number : ℕ
     order : whole ≡ done ++ (part, op) ∷ rest
-    invoked : IsAt (journal_on journals part) place (IsInvoke call i op)
-    later : last < stamp_at stamps part place
-    taken : place ≤ n part
+    invoked : IsAt (journal_on journals part) number (IsInvoke call i op)
+    later : last < stamp_at stamps part number
+    taken : number ≤ n part
 
   abbrev IsWorkedOff : ℕ → (ℕ → ℕ) → ℕ → List (ℕ × Op) → List (ℕ × Op) → List (ℕ × Op) → Option Waiting → Type 0
   IsWorkedOff i n last whole done rest None = whole ≡ done ++ rest
   IsWorkedOff i n last whole done rest (Some w) = IsOpenCall i n last whole done rest w.part w.call
 
-  -- the operations of a thread that were answered, with their receipts, where m events were taken, so many of each part
+  -- a thread's answered operations with their receipts, after m events, this many of each part
   record IsPast (i m : ℕ) (n : ℕ → ℕ) (whole rest : List (ℕ × Op)) (waiting : Option Waiting) (answers : List (ℕ × Answer)) : Type 0 where
     done : List (ℕ × Op)
     receipts : List Receipt
@@ -167,18 +167,18 @@ module _ (journals : List (List Event)) (stamps : List (List ℕ)) where
 
   module _ (m : ℕ) (n : ℕ → ℕ) (k : ℕ) (e : Event) (here : at_number (suc (n k)) (journal_on journals k) ≡ Some e)
       (stamp : stamp_at stamps k (suc (n k)) ≡ suc m) where
-    at_least : (part place : ℕ) → place ≤ n part → place ≤ one_more n k part
-    at_least part place l = split (part == k)
+    at_least : (part number : ℕ) → number ≤ n part → number ≤ one_more n k part
+    at_least part number l = split (part == k)
         (λ is.
         let same : n part ≡ n k = ap n (eqb-true part k is) in
-        subst (λ (c : ℕ). place ≤ c) (sym (ap (one_more n k) (eqb-true part k is) ∙ one_more_here n k)) (omega arith))
-        (λ not. subst (λ (c : ℕ). place ≤ c) (sym (one_more_there n k part not)) l)
+        subst (λ (c : ℕ). number ≤ c) (sym (ap (one_more n k) (eqb-true part k is) ∙ one_more_here n k)) (omega arith))
+        (λ not. subst (λ (c : ℕ). number ≤ c) (sym (one_more_there n k part not)) l)
 
     still_open : (i last : ℕ) (whole done rest : List (ℕ × Op)) (w : Option Waiting) → IsWorkedOff i n last whole done rest w
         → IsWorkedOff i (one_more n k) last whole done rest w
     still_open i last whole done rest None h = h
     still_open i last whole done rest (Some w) h =
-        record { op = h.op; place = h.place; order = h.order; invoked = h.invoked; later = h.later; taken = at_least w.part h.place h.taken }
+        record { op = h.op; number = h.number; order = h.order; invoked = h.invoked; later = h.later; taken = at_least w.part h.number h.taken }
 
     not_begun : (i : ℕ) (whole rest : List (ℕ × Op)) (w : Option Waiting) (answers : List (ℕ × Answer)) → IsPast i m n whole rest w answers
         → IsPast i m (one_more n k) whole rest w answers
@@ -204,7 +204,7 @@ module _ (journals : List (List Event)) (stamps : List (List ℕ)) where
           low = h.low;
           worked_off = record {
             op = o;
-            place = suc (n k);
+            number = suc (n k);
             order = whole_is ∙ ap (λ xs. h.done ++ xs) next ∙ ap {B = List (ℕ × Op)} (λ xs. h.done ++ (k, o) ∷ drop 1 xs) (sym next);
             invoked = record { event = e; there = here; is = inv };
             later = above (last_stamp 0 h.done h.receipts) m (stamp_at stamps k (suc (n k))) h.low stamp;
@@ -219,7 +219,7 @@ module _ (journals : List (List Event)) (stamps : List (List ℕ)) where
         same_number : (a b : ℕ) → a ≡ b → a ≤ b
         same_number a b s = omega arith
 
-    -- the thread behind the event, but for its answer
+    -- the thread after the event, except for its answer
     begun : (i : ℕ) (whole : List (ℕ × Op)) (t : ThreadState) → MayStart i k e t → IsPast i m n whole t.rest t.waiting t.answers
         → (x : Event) → e ≡ x → IsPast i m (one_more n k) whole (started i k x t).rest (started i k x t).waiting (started i k x t).answers
     begun i whole t may h (event.Invoke call thread o a) is =
@@ -249,12 +249,12 @@ module _ (journals : List (List Event)) (stamps : List (List ℕ)) where
     answered : (i : ℕ) (whole rest : List (ℕ × Op)) (call : ℕ) (answers : List (ℕ × Answer)) (a : Answer) (done : List (ℕ × Op)) (receipts : List Receipt)
         → Follow journals stamps i 0 done receipts → IsOpenCall i (one_more n k) (last_stamp 0 done receipts) whole done rest k call → answers ≡ answers_by done receipts
         → answer_at call e ≡ Some a → IsPast i (suc m) (one_more n k) whole rest None (answers ++ (k, a) ∷ [])
-    answered i whole rest call answers a done receipts f h same told =
-        let r : Receipt = record { call = call; at_invoke = h.place; at_reply = suc (n k); answer = a } in
-        let is : IsReceipt (journal_on journals k) i h.op (record { call = call; at_invoke = h.place; at_reply = suc (n k); answer = a }) = record {
+    answered i whole rest call answers a done receipts f h same reported =
+        let r : Receipt = record { call = call; at_invoke = h.number; at_reply = suc (n k); answer = a } in
+        let is : IsReceipt (journal_on journals k) i h.op (record { call = call; at_invoke = h.number; at_reply = suc (n k); answer = a }) = record {
           invoked = h.invoked;
-          answered = record { event = e; there = here; is = told };
-          ordered = subst (λ (c : ℕ). h.place ≤ c) (one_more_here n k) h.taken;
+          answered = record { event = e; there = here; is = reported };
+          ordered = subst (λ (c : ℕ). h.number ≤ c) (one_more_here n k) h.taken;
         } in
         record {
           done = done ++ (k, h.op) ∷ [];
@@ -278,11 +278,11 @@ module _ (journals : List (List Event)) (stamps : List (List ℕ)) where
             → IsPast i (suc m) (one_more n k) whole (settled_by k t a).rest (settled_by k t a).waiting (settled_by k t a).answers
         by_answer None silent =
             subst (λ (o : Option Waiting). IsPast i (suc m) (one_more n k) whole t.rest o t.answers) (sym is) (unanswered i whole t.rest (Some w) t.answers h)
-        by_answer (Some a) told = split (w.part == k)
+        by_answer (Some a) reported = split (w.part == k)
             (λ mine. answered i whole t.rest w.call t.answers a h.done h.receipts h.follow
             (subst (λ (p : ℕ). IsOpenCall i (one_more n k) (last_stamp 0 h.done h.receipts) whole h.done t.rest p w.call) (eqb-true w.part k mine) h.worked_off) h.same
-            (sym (if_true (w.part == k) (answer_at w.call e) None mine) ∙ told))
-            (λ other. none_is_some (sym (if_false (w.part == k) (answer_at w.call e) None other) ∙ told))
+            (sym (if_true (w.part == k) (answer_at w.call e) None mine) ∙ reported))
+            (λ other. none_is_some (sym (if_false (w.part == k) (answer_at w.call e) None other) ∙ reported))
 
     past_after : (i : ℕ) (whole : List (ℕ × Op)) (t : ThreadState) → MayStart i k e t → IsPast i m n whole t.rest t.waiting t.answers
         → IsPast i (suc m) (one_more n k) whole (thread_after k e (started i k e t)).rest (thread_after k e (started i k e t)).waiting (thread_after k e (started i k e t)).answers
@@ -309,10 +309,10 @@ module _ (journals : List (List Event)) (stamps : List (List ℕ)) where
 
   -- ---- an order
 
-  -- behind m events, so many of each part, and before those of an order
+  -- after m events, this many of each part, and before those of an order
   record IsWalked (specs : List ThreadSpec) (s : Taking) (m : ℕ) (n : ℕ → ℕ) (order : List ℕ) : Type 0 where
     size : length s.left ≡ length journals
-    left : (part : ℕ) → AreBehind (journal_on journals part) (n part) (slice_index_or s.left part [])
+    left : (part : ℕ) → ComeAfter (journal_on journals part) (n part) (slice_index_or s.left part [])
     stamped : (part : ℕ) → part < length journals → (j : ℕ) → slice_get (stamps_from part m order) j ≡ slice_get (stamps_on stamps part) (n part + j)
     past : ArePast m n 0 specs s.threads
 
@@ -325,8 +325,8 @@ module _ (journals : List (List Event)) (stamps : List (List ℕ)) where
     is : (slice_index_or s.left k [] ≡ may.event ∷ may.rest) × (k < length s.left)
     is = left_is s.left k (may.event ∷ may.rest) may.at
 
-    left_here : AreBehind (journal_on journals k) (n k) (may.event ∷ may.rest)
-    left_here = subst (AreBehind (journal_on journals k) (n k)) is.0 (h.left k)
+    left_here : ComeAfter (journal_on journals k) (n k) (may.event ∷ may.rest)
+    left_here = subst (ComeAfter (journal_on journals k) (n k)) is.0 (h.left k)
 
     stamp_is : stamp_at stamps k (suc (n k)) ≡ suc m
     stamp_is =
@@ -343,10 +343,10 @@ module _ (journals : List (List Event)) (stamps : List (List ℕ)) where
       left = λ part. split (part == k)
           (λ here.
           let same : part ≡ k = eqb-true part k here in
-          subst (λ (q : ℕ). AreBehind (journal_on journals q) (one_more n k q) (slice_index_or (slice_set s.left k may.rest) q [])) (sym same) own)
+          subst (λ (q : ℕ). ComeAfter (journal_on journals q) (one_more n k q) (slice_index_or (slice_set s.left k may.rest) q [])) (sym same) own)
           (λ there.
-          subst (AreBehind (journal_on journals part) (one_more n k part)) (sym (get_or-set_other s.left k part may.rest [] (λ e. eqb-false part k there e)))
-          (subst (λ (c : ℕ). AreBehind (journal_on journals part) c (slice_index_or s.left part [])) (sym (one_more_there n k part there)) (h.left part)));
+          subst (ComeAfter (journal_on journals part) (one_more n k part)) (sym (get_or-set_other s.left k part may.rest [] (λ e. eqb-false part k there e)))
+          (subst (λ (c : ℕ). ComeAfter (journal_on journals part) c (slice_index_or s.left part [])) (sym (one_more_there n k part there)) (h.left part)));
       stamped = λ part low j. split (part == k)
           (λ here.
           let same : part ≡ k = eqb-true part k here in
@@ -358,14 +358,14 @@ module _ (journals : List (List Event)) (stamps : List (List ℕ)) where
           ap (λ xs. slice_get xs j) (sym (stamps_from_there part m k order (other k part there)))
           ∙ h.stamped part low j
           ∙ ap (λ (c : ℕ). slice_get (stamps_on stamps part) (c + j)) (sym (one_more_there n k part there)));
-      past = all_past_after m n k may.event (first_behind (journal_on journals k) (n k) may.event may.rest left_here) stamp_is 0 specs s.threads
+      past = all_past_after m n k may.event (first_after (journal_on journals k) (n k) may.event may.rest left_here) stamp_is 0 specs s.threads
           (all_timely s.threads k may.event may.timely) h.past;
     }
       where
-        own : AreBehind (journal_on journals k) (one_more n k k) (slice_index_or (slice_set s.left k may.rest) k [])
-        own = subst (λ (c : ℕ). AreBehind (journal_on journals k) c (slice_index_or (slice_set s.left k may.rest) k [])) (sym (one_more_here n k))
-            (subst (AreBehind (journal_on journals k) (suc (n k))) (sym (get_or-set_same s.left k may.rest [] is.1))
-            (rest_behind (journal_on journals k) (n k) may.event may.rest left_here))
+        own : ComeAfter (journal_on journals k) (one_more n k k) (slice_index_or (slice_set s.left k may.rest) k [])
+        own = subst (λ (c : ℕ). ComeAfter (journal_on journals k) c (slice_index_or (slice_set s.left k may.rest) k [])) (sym (one_more_here n k))
+            (subst (ComeAfter (journal_on journals k) (suc (n k))) (sym (get_or-set_same s.left k may.rest [] is.1))
+            (rest_after (journal_on journals k) (n k) may.event may.rest left_here))
 
         next : (c j d : ℕ) → d ≡ suc c → c + suc j ≡ d + j
         next c j d e = omega arith
@@ -394,7 +394,7 @@ module _ (journals : List (List Event)) (stamps : List (List ℕ)) where
   past_opening n i (spec ∷ specs) =
       (record { done = []; receipts = []; follow = tt; low = omega arith; worked_off = refl; same = refl }, past_opening n (i + 1) specs)
 
-  -- ---- what was worked off
+  -- ---- scripts that were carried out
 
   -- a thread's script has receipts that follow one another, with these answers
   pub record IsWorked (i : ℕ) (ops : List (ℕ × Op)) (answers : List (ℕ × Answer)) : Type 0 where
@@ -453,7 +453,7 @@ order_clocked specs journals order end leads all =
     let through : IsWalkedThrough journals stamps specs end =
     walks journals stamps specs order (opening_taking specs journals) end 0 (λ part. 0) leads (record {
       size = refl;
-      left = λ part. all_behind (journal_on journals part);
+      left = λ part. all_after (journal_on journals part);
       stamped = λ part low j. ap (λ xs. slice_get xs j) (sym (stamps_are 0 journals order part low ∙ ap (λ (p : ℕ). stamps_from p 0 order) (none part)))
           ∙ ap (slice_get (stamps_on stamps part)) (plus j);
       past = past_opening journals stamps (λ part. 0) 0 specs;

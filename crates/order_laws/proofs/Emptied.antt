@@ -35,7 +35,7 @@ abbrev WaitsBelow : ℕ → Option Waiting → Type 0
 WaitsBelow n None = Unit {0}
 WaitsBelow n (Some w) = w.part < n
 
--- the operations that a thread has left, and its open call if there is one, are on parts below this number
+-- a thread's remaining operations, and its open call if there is one, are on parts below this number
 record IsBelow (n : ℕ) (t : ThreadState) : Type 0 where
   ops : AreBelow n t.rest
   waits : WaitsBelow n t.waiting
@@ -59,9 +59,9 @@ started_below n i k (event.Burst context call burst count end acts a failure) t 
 started_below n i k (event.Stage stage answers released) t low h = h
 started_below n i k (event.Arrive frame kept) t low h = h
 
-told_below : (n k : ℕ) (e : Event) (t : ThreadState) (w : Option Waiting) → IsBelow n t → IsBelow n (settled k e t w)
-told_below n k e t None h = h
-told_below n k e t (Some w) h = by_answer (if w.part == k then answer_at w.call e else None)
+reported_below : (n k : ℕ) (e : Event) (t : ThreadState) (w : Option Waiting) → IsBelow n t → IsBelow n (settled k e t w)
+reported_below n k e t None h = h
+reported_below n k e t (Some w) h = by_answer (if w.part == k then answer_at w.call e else None)
   where
     by_answer : (a : Option Answer) → IsBelow n (settled_by k t a)
     by_answer None = h
@@ -72,7 +72,7 @@ below_after : (n i k : ℕ) (e : Event) (threads : List ThreadState) → k < n �
 below_after n i k e [] low h = tt
 below_after n i k e (t ∷ threads) low h =
     let s : ThreadState = started i k e t in
-    (told_below n k e s s.waiting (started_below n i k e t low h.0), below_after n (i + 1) k e threads low h.1)
+    (reported_below n k e s s.waiting (started_below n i k e t low h.0), below_after n (i + 1) k e threads low h.1)
 
 below_opening : (n : ℕ) (threads : List ThreadSpec) → AllByRecursion (IsValidThread n) threads → AllByRecursion (IsBelow n) (map opening_thread threads)
 below_opening n [] h = tt
@@ -83,7 +83,7 @@ below_opening n (t ∷ threads) h = (
 
 -- ---- an order
 
--- there are so many parts, and all that the threads have left is on one of them
+-- there are this many parts, and everything that the threads have left is on one of them
 record IsWithin (n : ℕ) (s : Taking) : Type 0 where
   size : length s.left ≡ n
   below : AllByRecursion (IsBelow n) s.threads

@@ -1,4 +1,4 @@
--- A simulation takes the events of journals that fit in an order in which they can be taken.
+-- If the events of journals that fit can be taken in an order, a simulation takes them in that order.
 use Rattle.std.proofs.Common.{◌≡◌, ◌⊎◌, inl, inr, ℕ, zero, suc, ◌+◌, ◌<◌, ◌==◌, ◌&&◌, is_none, true, false, Option, Some, None, List, [], ◌∷◌, ◌++◌, length, map, slice_get, slice_index_or, slice_set, refl, sym, ap, ap₂, ◌∙◌, subst, arith, append_assoc, append-nil, ne_eqb, true≢false}
 use Rattle.std.proofs.lemmas.Bool.{and_parts}
 use Rattle.std.proofs.lemmas.List.{get_or-set_same}
@@ -18,7 +18,7 @@ use Rattle.nook_data.proofs.Options.{none_is_some, same_inside}
 use Rattle.part_defs.specs.Log.{opening_log}
 use Rattle.part_defs.specs.Runs.{event_of, next_any, next_of_calls, next_recovery, step_of}
 use Rattle.part_defs.specs.Steps.{enabled, opening}
-use Rattle.part_laws.proofs.Places.{from_map, get_set, length_map}
+use Rattle.part_laws.proofs.Indices.{from_map, get_set, length_map}
 use Rattle.part_laws.proofs.RunBound.{opening_tied}
 use Rattle.part_laws.proofs.StepsFit.{fit_after, opening_fit}
 use Rattle.part_laws.proofs.TiedBursts.{tied_after}
@@ -29,7 +29,7 @@ use Rattle.run_defs.specs.Schedules.{Order, listed}
 use Rattle.run_defs.specs.Simulation.{Choice, RunningPart, Simulation, ThreadState, Waiting, arrival, choices_of, journal_of, journals_of, opening_part, opening_thread, part_after}
 use Rattle.run_defs.specs.Simulation.{runs, stepped_by, threads_after}
 use Rattle.run_defs.proofs.ChoicesInOrder.{choices_in_order, part_choices, thread_choices, with_choice, with_invocation, with_thread}
-use Rattle.run_laws.proofs.Numbers.{number, started_number, step_says, told_number}
+use Rattle.run_laws.proofs.Numbers.{number, started_number, step_says, pending_number}
 use Rattle.run_laws.proofs.Threads.{AreThreadsOf, threads_step}
 use Rattle.run_laws.specs.Audit.{Section, are_through, arrival_of, has_nothing, is_complete, opening_section, section_after}
 use Rattle.run_laws.specs.Fitting.{AllFit, FitsFrom, IsNext}
@@ -40,41 +40,41 @@ use Rattle.order_laws.proofs.Chosen.{Finds, runs_listed}
 use Rattle.order_laws.proofs.Ordered.{left_is, none_before}
 use Rattle.order_laws.proofs.Own.{own_step}
 
--- a part's section, whatever it knows of the threads
+-- a part's section, for any threads
 abbrev section_at : ℕ → PartSpec → RunningPart → List ThreadState → Section
-section_at place spec seat threads = record { place = place; spec = spec; seat = seat; threads = threads }
+section_at index spec seat threads = record { index = index; spec = spec; seat = seat; threads = threads }
 
 -- ---- one step of a part
 
--- what is left of a part's journal fits the part
-record IsMid (journal : List Event) (place : ℕ) (seat : RunningPart) (left : List Event) : Type 0 where
+-- the rest of a part's journal fits the part
+record IsMid (journal : List Event) (index : ℕ) (seat : RunningPart) (left : List Event) : Type 0 where
   spec : PartSpec
   threads : List ThreadState
-  fits : FitsFrom (section_at place spec seat threads) left
+  fits : FitsFrom (section_at index spec seat threads) left
   fit : IsFit seat.run.state
   tied : IsTied seat.run.state
   journal_is : seat.run.journal ++ left ≡ journal
 
--- the first event that is left may be taken, and is what its step makes
+-- the first event left may be taken, and is the one that its step makes
 record IsMade (seat : RunningPart) (e : Event) : Type 0 where
   may : enabled seat.run.state (step_of e) ≡ true
   makes : event_of seat.run.state (step_of e) ≡ e
   coming : (frame : List ℕ) → step_of e ≡ step.Arrive frame → arrival_of seat.coming ≡ Some (step.Arrive frame)
 
-mid_made : (journal : List Event) (place : ℕ) (seat : RunningPart) (e : Event) (rest : List Event) → IsMid journal place seat (e ∷ rest) → IsMade seat e
+mid_made : (journal : List Event) (index : ℕ) (seat : RunningPart) (e : Event) (rest : List Event) → IsMid journal index seat (e ∷ rest) → IsMade seat e
 unfolding FitsFrom
-mid_made journal place seat e rest h = record {
+mid_made journal index seat e rest h = record {
   may = h.fits.0;
   makes = h.fits.1;
-  coming = λ frame is. subst (IsNext (section_at place h.spec seat h.threads)) is h.fits.2;
+  coming = λ frame is. subst (IsNext (section_at index h.spec seat h.threads)) is h.fits.2;
 }
 
-mid_after : (journal : List Event) (place : ℕ) (seat : RunningPart) (e : Event) (rest : List Event) → IsMid journal place seat (e ∷ rest)
-    → IsMid journal place (part_after (step_of e) seat) rest
+mid_after : (journal : List Event) (index : ℕ) (seat : RunningPart) (e : Event) (rest : List Event) → IsMid journal index seat (e ∷ rest)
+    → IsMid journal index (part_after (step_of e) seat) rest
 unfolding FitsFrom section_after
-mid_after journal place seat e rest h = record {
+mid_after journal index seat e rest h = record {
   spec = h.spec;
-  threads = threads_after 0 place (event_of seat.run.state (step_of e)) h.threads;
+  threads = threads_after 0 index (event_of seat.run.state (step_of e)) h.threads;
   fits = h.fits.3;
   fit = fit_after seat.run.state (step_of e) h.fit h.fits.0;
   tied = tied_after seat.run.state (step_of e) h.fit h.tied h.fits.0;
@@ -90,11 +90,11 @@ nothing_so : {X : Type 0} (xs : List X) → has_nothing xs ≡ true → xs ≡ [
 nothing_so [] h = refl
 nothing_so (x ∷ xs) h = absurd (true≢false (sym h))
 
--- a part of which nothing is left has no step
-mid_ended : (journal : List Event) (place : ℕ) (seat : RunningPart) → IsMid journal place seat []
+-- a part with no event left has no step
+mid_ended : (journal : List Event) (index : ℕ) (seat : RunningPart) → IsMid journal index seat []
     → (next_recovery seat.run.state ≡ None) × (arrival seat.run seat.coming ≡ None)
 unfolding FitsFrom is_complete next_any
-mid_ended journal place seat h =
+mid_ended journal index seat h =
     let both = and_parts (are_through h.threads) (has_nothing seat.coming && is_none (next_any seat.run.state)) h.fits in
     let parts = and_parts (has_nothing seat.coming) (is_none (next_any seat.run.state)) both.1 in (
       first_none (next_recovery seat.run.state) (next_of_calls seat.run.state seat.run.state.log.pending) (none_so (next_any seat.run.state) parts.1),
@@ -105,7 +105,7 @@ mid_ended journal place seat h =
     first_none None b h = refl
     first_none (Some x) b h = cc
 
--- ---- a simulation and what is left
+-- ---- a simulation and the events left
 
 some_at : {X : Type 0} (xs : List X) (k : ℕ) → k < length xs → (x : X) × (slice_get xs k ≡ Some x)
 some_at [] k l = absurd (omega arith)
@@ -125,7 +125,7 @@ set_there (y ∷ xs) zero (suc j) x d apart = refl
 set_there (y ∷ xs) (suc k) (suc j) x d apart = set_there xs k j x d (λ e. apart (ap suc e))
 
 module _ (journals : List (List Event)) (specs : List ThreadSpec) where
-  -- the simulation stands where the events that were taken lead
+  -- the simulation is in the state to which the events taken lead
   record Keeps (s : Simulation) (u : Taking) : Type 0 where
     same : s.threads ≡ u.threads
     size : length s.parts ≡ length u.left
@@ -134,7 +134,7 @@ module _ (journals : List (List Event)) (specs : List ThreadSpec) where
     threads : AreThreadsOf s.parts 0 specs s.threads
     outside : (k i : ℕ) (seat : RunningPart) → slice_get s.parts k ≡ Some seat → slice_get s.threads i ≡ None → number i seat.run.state.log.pending ≡ None
 
-  -- a thread that is not there invokes nothing
+  -- a thread that does not exist invokes nothing
   none_started : (i k : ℕ) (e : Event) (threads : List ThreadState) → IsTimely threads k e → slice_get threads i ≡ None → started_number i e None ≡ None
   none_started i k (event.Invoke call thread o a) threads h none =
       let apart : (thread == i) ≡ false = ne_eqb thread i (λ e. some_none (sym (ap (slice_get threads) (sym e) ∙ h.at) ∙ none)) in
@@ -172,25 +172,25 @@ module _ (journals : List (List Event)) (specs : List ThreadSpec) where
           same = ap (λ (e : Event). threads_after 0 k e s.threads) made.makes ∙ ap (threads_after 0 k may.event) h.same;
           size = set_length s.parts k (part_after x seat) ∙ h.size ∙ sym (set_length u.left k may.rest);
           count = set_length s.parts k (part_after x seat) ∙ h.count;
-          mid = λ j y at. by_place (get_set s.parts j k (part_after x seat) y at)
+          mid = λ j y at. by_position (get_set s.parts j k (part_after x seat) y at)
               (λ here. mid_set j y here.0 here.1 is.1)
               (λ apart. subst (IsMid (journal_on journals j) j y) (sym (set_there u.left j k may.rest [] apart.0)) (h.mid j y apart.1));
           threads = threads_step s.parts 0 specs s.threads s.threads k seat x there.1 mid_here.tied made.may (own_step s.threads k may.event timely)
               (λ i. ap (slice_get s.threads) (plus i)) h.threads;
           outside = λ j i y at none.
               let free : slice_get s.threads i ≡ None = none_before 0 k (event_of seat.run.state x) s.threads i none in
-              by_place (get_set s.parts j k (part_after x seat) y at)
+              by_position (get_set s.parts j k (part_after x seat) y at)
               (λ here. ap (λ (z : RunningPart). number i z.run.state.log.pending) here.1
               ∙ step_says seat.run.state x i mid_here.tied made.may
-              ∙ ap (λ w. told_number (λ call. answer_at call (event_of seat.run.state x)) (started_number i (event_of seat.run.state x) w)) (h.outside k i seat there.1 free)
-              ∙ ap (told_number (λ call. answer_at call (event_of seat.run.state x)))
+              ∙ ap (λ w. pending_number (λ call. answer_at call (event_of seat.run.state x)) (started_number i (event_of seat.run.state x) w)) (h.outside k i seat there.1 free)
+              ∙ ap (pending_number (λ call. answer_at call (event_of seat.run.state x)))
               (ap (λ (e : Event). started_number i e None) made.makes ∙ none_started i k may.event s.threads timely free))
               (λ apart. h.outside j i y apart.1 free);
         }
       where
-        by_place : {A B G : Type 0} → A ⊎ B → (A → G) → (B → G) → G
-        by_place (inl a) f g = f a
-        by_place (inr b) f g = g b
+        by_position : {A B G : Type 0} → A ⊎ B → (A → G) → (B → G) → G
+        by_position (inl a) f g = f a
+        by_position (inr b) f g = g b
 
         plus : (n : ℕ) → n ≡ 0 + n
         plus n = omega arith
@@ -258,7 +258,7 @@ module _ (journals : List (List Event)) (specs : List ThreadSpec) where
   abbrev with_order : Simulation → Order → Simulation
   with_order s order = record { order = order; parts = s.parts; threads = s.threads }
 
-  -- picks with which the simulation ends so
+  -- picks with which the simulation ends in this state
   pub record IsListed (s : Simulation) (u : Taking) : Type 0 where
     pub picks : List ℕ
     pub steps : ℕ
@@ -321,12 +321,12 @@ fits_at threads first (x ∷ parts) (j ∷ journals) (suc k) spec h at =
     next : (n k : ℕ) → suc n + k ≡ n + suc k
     next n k = omega arith
 
-same_count : (threads : List ThreadSpec) (place : ℕ) (parts : List PartSpec) (journals : List (List Event)) → AllFit threads place parts journals → length parts ≡ length journals
+same_count : (threads : List ThreadSpec) (index : ℕ) (parts : List PartSpec) (journals : List (List Event)) → AllFit threads index parts journals → length parts ≡ length journals
 unfolding AllFit
-same_count threads place [] [] h = refl
-same_count threads place [] (journal ∷ journals) h = absurd h
-same_count threads place (spec ∷ parts) [] h = absurd h
-same_count threads place (spec ∷ parts) (journal ∷ journals) h = ap suc (same_count threads (suc place) parts journals h.1)
+same_count threads index [] [] h = refl
+same_count threads index [] (journal ∷ journals) h = absurd h
+same_count threads index (spec ∷ parts) [] h = absurd h
+same_count threads index (spec ∷ parts) (journal ∷ journals) h = ap suc (same_count threads (suc index) parts journals h.1)
 
 valid_at : (parts : List PartSpec) (k : ℕ) (spec : PartSpec) → AllByRecursion IsValidPart parts → slice_get parts k ≡ Some spec → IsValidPart spec
 valid_at [] k spec v at = none_is_some at

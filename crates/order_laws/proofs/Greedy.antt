@@ -9,7 +9,7 @@ use Rattle.nook_data.specs.declared.scenario.ThreadSpec.{ThreadSpec}
 use Rattle.nook_data.specs.declared.steps.Event.{Event}
 use Rattle.nook_data.specs.declared.steps.Event.TheVariants as event
 use Rattle.nook_data.proofs.Options.{none_is_some, same_inside}
-use Rattle.part_laws.proofs.Places.{get_set_other, split}
+use Rattle.part_laws.proofs.Indices.{get_set_other, split}
 use Rattle.run_defs.specs.Simulation.{ThreadState, Waiting, started, thread_after, threads_after}
 use Rattle.run_defs.proofs.RunChanges.{settled, settled_by}
 use Rattle.threaded_run.specs.Others.{HaveNoOthers, is_invocation_by}
@@ -22,7 +22,7 @@ use Rattle.order_laws.proofs.Own.{all_timely}
 
 -- ---- a thread
 
--- a thread behind an event of a part
+-- a thread after an event of a part
 abbrev touched : ℕ → ℕ → Event → ThreadState → ThreadState
 touched i k e t = thread_after k e (started i k e t)
 
@@ -38,16 +38,16 @@ not_started i k (event.Burst context call burst count end acts a failure) t h = 
 not_started i k (event.Stage stage answers released) t h = refl
 not_started i k (event.Arrive frame kept) t h = refl
 
-not_told : (k : ℕ) (e : Event) (t : ThreadState) (w : Option Waiting) → IsElsewhere k w → settled k e t w ≡ t
-not_told k e t None h = refl
-not_told k e t (Some w) h = ap (λ b. settled_by k t (if b then answer_at w.call e else None)) h
+not_reported : (k : ℕ) (e : Event) (t : ThreadState) (w : Option Waiting) → IsElsewhere k w → settled k e t w ≡ t
+not_reported k e t None h = refl
+not_reported k e t (Some w) h = ap (λ b. settled_by k t (if b then answer_at w.call e else None)) h
 
 untouched : (i k : ℕ) (e : Event) (t : ThreadState) → is_invocation_by i e ≡ false → IsElsewhere k t.waiting → touched i k e t ≡ t
-untouched i k e t not h = ap (thread_after k e) (not_started i k e t not) ∙ not_told k e t t.waiting h
+untouched i k e t not h = ap (thread_after k e) (not_started i k e t not) ∙ not_reported k e t t.waiting h
 
-told_elsewhere : (k j : ℕ) (e : Event) (t : ThreadState) (w : Option Waiting) → IsElsewhere j t.waiting → IsElsewhere j (settled k e t w).waiting
-told_elsewhere k j e t None h = h
-told_elsewhere k j e t (Some w) h = by_answer (if w.part == k then answer_at w.call e else None)
+reported_elsewhere : (k j : ℕ) (e : Event) (t : ThreadState) (w : Option Waiting) → IsElsewhere j t.waiting → IsElsewhere j (settled k e t w).waiting
+reported_elsewhere k j e t None h = h
+reported_elsewhere k j e t (Some w) h = by_answer (if w.part == k then answer_at w.call e else None)
   where
     by_answer : (a : Option Answer) → IsElsewhere j (settled_by k t a).waiting
     by_answer None = h
@@ -64,15 +64,15 @@ started_elsewhere i k j (event.Burst context call burst count end acts a failure
 started_elsewhere i k j (event.Stage stage answers released) t apart h = h
 started_elsewhere i k j (event.Arrive frame kept) t apart h = h
 
--- an event that leaves the thread as it is, before or behind another part's
+-- an event that leaves the thread as it is, before or after another part's event
 passes : (i k j : ℕ) (e f : Event) (t : ThreadState) → (k == j) ≡ false → is_invocation_by i f ≡ false → IsElsewhere j t.waiting
     → touched i j f (touched i k e t) ≡ touched i k e (touched i j f t)
 passes i k j e f t apart not h =
     let s : ThreadState = started i k e t in
-    untouched i j f (touched i k e t) not (told_elsewhere k j e s s.waiting (started_elsewhere i k j e t apart h))
+    untouched i j f (touched i k e t) not (reported_elsewhere k j e s s.waiting (started_elsewhere i k j e t apart h))
     ∙ sym (ap (touched i k e) (untouched i j f t not h))
 
--- an invocation is the next of its thread, which waits nowhere
+-- an invocation is the next operation of its thread, which has no open call
 first_on : (i k : ℕ) (e : Event) (t : ThreadState) → MayStart i k e t → is_invocation_by i e ≡ true
     → (t.waiting ≡ None) × ((o : Op) × ((more : List (ℕ × Op)) × (t.rest ≡ (k, o) ∷ more)))
 first_on i k (event.Invoke call thread o a) t may is =
@@ -140,7 +140,7 @@ set_apart (z ∷ xs) zero (suc j) x y apart = refl
 set_apart (z ∷ xs) (suc k) zero x y apart = refl
 set_apart (z ∷ xs) (suc k) (suc j) x y apart = ap (λ ys. z ∷ ys) (set_apart xs k j x y (λ e. apart (ap suc e)))
 
--- what may be taken may still be taken behind another part's event
+-- what may be taken may still be taken after another part's event
 timely_after : (threads : List ThreadState) (k j : ℕ) (e f : Event) → (k == j) ≡ false → IsTimely threads k e → IsTimely threads j f
     → IsTimely (threads_after 0 k e threads) j f
 timely_after threads k j e (event.Invoke call i o a) apart h h' =
@@ -203,7 +203,7 @@ both s k j a b apart =
     ap₂ taking_of (set_apart s.left k j a.rest b.rest (eqb-false k j apart))
     (all_commute 0 k j a.event b.event s.threads apart (all_timely s.threads k a.event a.timely) (all_timely s.threads j b.event b.timely))
 
--- one part has one next event
+-- a part has one next event
 abbrev after_head : Taking → ℕ → List Event → Taking
 after_head s k [] = s
 after_head s k (e ∷ rest) = after_taking s k e rest
@@ -215,7 +215,7 @@ same_taking s k j a b same =
 
 -- ---- orders
 
--- what may be taken now may be taken first on the way to an end
+-- an event that may be taken now may be taken first on the way to an end
 takes_first : (order : List ℕ) (s end : Taking) (j : ℕ) (b : MayTake s j) → Leads s order end → IsStuck end
     → (others : List ℕ) × Leads (after_taking s j b.event b.rest) others end
 takes_first [] s end j b leads stuck = absurd (stuck j (subst (λ (x : Taking). MayTake x j) leads b))
@@ -227,7 +227,7 @@ takes_first (k ∷ order) s end j b leads stuck =
     let more = takes_first order (after_taking s k a.event a.rest) end j (still s k j a b apart) leads.1 stuck in
     (k ∷ more.0, (still s j k b a (flipped k j apart), subst (λ (x : Taking). Leads x more.0 end) (both s k j a b apart) more.1)))
 
--- two ends at which nothing may be taken are one
+-- two ends at which nothing may be taken are the same
 pub ends_same : (order other : List ℕ) (s a b : Taking) → Leads s order a → IsStuck a → Leads s other b → IsStuck b → a ≡ b
 ends_same [] [] s a b leads stuck leads' stuck' = sym leads ∙ leads'
 ends_same (k ∷ order) [] s a b leads stuck leads' stuck' = absurd (stuck' k (subst (λ (x : Taking). MayTake x k) leads' leads.0))
@@ -235,14 +235,14 @@ ends_same order (j ∷ other) s a b leads stuck leads' stuck' =
     let first = takes_first order s a j leads'.0 leads stuck in
     ends_same first.0 other (after_taking s j leads'.0.event leads'.0.rest) a b first.1 stuck leads'.1 stuck'
 
--- where all is taken nothing may be taken
+-- when everything is taken, nothing may be taken
 pub all_stuck : (s : Taking) → IsAllTaken s → IsStuck s
 all_stuck s all part may = not_empty (sym (all.none_left part) ∙ (left_is s.left part (may.event ∷ may.rest) may.at).0)
   where
     not_empty : {x : Event} {xs : List Event} → [] ≡ x ∷ xs → ⊥
     not_empty h = cc
 
--- of journals that are one run everything is taken, whatever is taken first
+-- if journals are one run, everything is taken, whatever is taken first
 pub one_run_taken : (threads : List ThreadSpec) (parts : List PartSpec) (journals : List (List Event)) (order : List ℕ) (end : Taking)
     → HaveNoOthers threads 0 parts journals → AreOneRun threads journals → Leads (opening_taking threads journals) order end → IsStuck end → IsAllTaken end
 one_run_taken threads parts journals order end none one leads stuck =

@@ -10,7 +10,7 @@ use Rattle.nook_data.specs.declared.scenario.ThreadSpec.{ThreadSpec}
 use Rattle.nook_data.specs.declared.steps.Event.{Event}
 use Rattle.run_defs.specs.Schedules.{listed, opening_order}
 use Rattle.run_defs.specs.Simulation.{IsScheduledRun, Simulation, answers_of_thread, begins, journals_of}
-use Rattle.run_ends.specs.Journals.{AreRuns}
+use Rattle.run_results.specs.Journals.{AreRuns}
 use Rattle.run_laws.specs.Fitting.{AllFit}
 use Rattle.threaded_run.specs.Threaded.{AreServed, IsThreaded}
 use Rattle.audited_runs.proofs.Asked.{threaded_fits}

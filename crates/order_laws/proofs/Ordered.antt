@@ -4,7 +4,7 @@ use Rattle.std.proofs.lemmas.Bool.{eqb-false, leb-true, leb-false}
 use Rattle.std.proofs.lemmas.List.{get_or-set_other, get_or-set_same}
 use Rattle.std.specs.List.{AllByRecursion}
 use Rattle.desk_like.specs.Desks.{IsAt, IsInvoke, IsRisingFrom}
-use Rattle.nook_data.specs.Places.{at_number}
+use Rattle.nook_data.specs.Numbered.{at_number}
 use Rattle.nook_data.specs.declared.calls.Op.{Op}
 use Rattle.nook_data.specs.declared.desks.Receipt.{Receipt}
 use Rattle.nook_data.specs.declared.scenario.PartSpec.{PartSpec}
@@ -12,23 +12,23 @@ use Rattle.nook_data.specs.declared.scenario.ThreadSpec.{ThreadSpec}
 use Rattle.nook_data.specs.declared.steps.Event.{Event}
 use Rattle.nook_data.specs.declared.steps.Event.TheVariants as event
 use Rattle.nook_data.proofs.Options.{none_is_some, same_inside}
-use Rattle.part_laws.proofs.Places.{from_map, split}
+use Rattle.part_laws.proofs.Indices.{from_map, split}
 use Rattle.run_defs.specs.Simulation.{ThreadState, Waiting, events_count, opening_thread, started, thread_after, threads_after}
 use Rattle.threaded_run.specs.Others.{HaveNoOthers, is_invocation_by, operations_on}
 use Rattle.threaded_run.specs.Threaded.{HaveReceipts, invoked_on}
 use Rattle.threaded_run.proofs.Counted.{if_false, if_true}
-use Rattle.threaded_run.proofs.Placed.{AreBehind, Has, all_behind, first_behind, rest_behind}
+use Rattle.threaded_run.proofs.Numbered.{ComeAfter, Has, all_after, first_after, rest_after}
 use Rattle.run_laws.specs.Audit.{is_on}
-use Rattle.audited_runs.proofs.Asked.{invoked_are, placed_are}
-use Rattle.audited_runs.proofs.Placed.{AreAll, passes_first, passes_not}
+use Rattle.audited_runs.proofs.Asked.{invoked_are, numbered_are}
+use Rattle.audited_runs.proofs.Numbered.{AreAll, passes_first, passes_not}
 use Rattle.audited_runs.proofs.Shares.{filter_none, filter_same}
 use Rattle.desk_like.specs.Stamps.{stamp_at}
 use Rattle.order_defs.specs.OneClock.{AreInOrder, AreOneRun, AreStamped, Follow, IsInOrder, journal_on}
 use Rattle.order_defs.specs.Taking.{IsAllTaken, IsNextOf, IsThrough, IsTimely, Leads, MayTake, Taking, after_taking, opening_taking}
 use Rattle.order_laws.proofs.Ahead.{AreToCome, HasReplyIfOpen, IsAhead, IsInvocationBy, IsInvokedIn, IsNextEvent, ahead_after, invokes_first, invokes_free, one_more, one_more_here, one_more_there}
-use Rattle.order_laws.proofs.Stamps.{answered_later, later_place, place_within, stamps_keep}
+use Rattle.order_laws.proofs.Stamps.{answered_later, later_position, position_within, stamps_keep}
 
--- ---- the least of the first events that are left
+-- ---- the least of the first events left
 
 record IsLeast (left : List (List Event)) (f : ℕ → ℕ) : Type 0 where
   part : ℕ
@@ -78,7 +78,7 @@ find_least ((e ∷ rest) ∷ left) f = elim (find_least left (λ j. f (suc j))) 
     later l gt zero x more h = omega arith
     later l gt (suc j) x more h = l.least j x more h
 
--- ---- lists of what is left
+-- ---- lists of events left
 
 pub left_is : (left : List (List Event)) (k : ℕ) (x : List Event) → slice_get left k ≡ Some x → (slice_index_or left k [] ≡ x) × (k < length left)
 left_is [] k x h = none_is_some h
@@ -109,71 +109,71 @@ none_left left j none e rest h = wrong (events_count (slice_set left j rest)) (s
     wrong : (n : ℕ) → 0 ≡ suc n → ⊥
     wrong n e = omega arith
 
--- an event behind the first n is left
-is_left : (journal : List Event) (n : ℕ) (events : List Event) (place : ℕ) (x : Event) → AreBehind journal n events → n < place → at_number place journal ≡ Some x
+-- an event after the first n is left
+is_left : (journal : List Event) (n : ℕ) (events : List Event) (number : ℕ) (x : Event) → ComeAfter journal n events → n < number → at_number number journal ≡ Some x
     → (e : Event) × ((rest : List Event) × (events ≡ e ∷ rest))
-is_left journal n (e ∷ rest) place x are l at = (e, (rest, refl))
+is_left journal n (e ∷ rest) number x are l at = (e, (rest, refl))
 is_left journal n [] zero x are l at = none_is_some at
 is_left journal n [] (suc m) x are l at =
     let there : n + (m - n) ≡ m = omega arith in
     none_is_some (are (m - n) ∙ ap (slice_get journal) there ∙ at)
 
--- ---- the threads before an event, by those after it
+-- ---- the threads before an event, from those after it
 
-thread_before : (n place : ℕ) (e : Event) (threads : List ThreadState) (k : ℕ) (t' : ThreadState) → slice_get (threads_after n place e threads) k ≡ Some t'
-    → (t : ThreadState) × (slice_get threads k ≡ Some t) × (thread_after place e (started (n + k) place e t) ≡ t')
-thread_before n place e [] k t' h = none_is_some h
-thread_before n place e (x ∷ threads) zero t' h = (x, refl, ap (λ (m : ℕ). thread_after place e (started m place e x)) (plus n) ∙ same_inside h)
+thread_before : (n number : ℕ) (e : Event) (threads : List ThreadState) (k : ℕ) (t' : ThreadState) → slice_get (threads_after n number e threads) k ≡ Some t'
+    → (t : ThreadState) × (slice_get threads k ≡ Some t) × (thread_after number e (started (n + k) number e t) ≡ t')
+thread_before n number e [] k t' h = none_is_some h
+thread_before n number e (x ∷ threads) zero t' h = (x, refl, ap (λ (m : ℕ). thread_after number e (started m number e x)) (plus n) ∙ same_inside h)
   where
     plus : (n : ℕ) → n + 0 ≡ n
     plus n = omega arith
-thread_before n place e (x ∷ threads) (suc k) t' h =
-    let b = thread_before (n + 1) place e threads k t' h in
-    (b.0, b.1, ap (λ (m : ℕ). thread_after place e (started m place e b.0)) (next n k) ∙ b.2)
+thread_before n number e (x ∷ threads) (suc k) t' h =
+    let b = thread_before (n + 1) number e threads k t' h in
+    (b.0, b.1, ap (λ (m : ℕ). thread_after number e (started m number e b.0)) (next n k) ∙ b.2)
   where
     next : (n k : ℕ) → n + suc k ≡ n + 1 + k
     next n k = omega arith
 
-pub own_before : (place : ℕ) (e : Event) (threads : List ThreadState) (i : ℕ) (t' : ThreadState) → slice_get (threads_after 0 place e threads) i ≡ Some t'
-    → (t : ThreadState) × (slice_get threads i ≡ Some t) × (thread_after place e (started i place e t) ≡ t')
-own_before place e threads i t' h =
-    let b = thread_before 0 place e threads i t' h in
-    (b.0, b.1, ap (λ (m : ℕ). thread_after place e (started m place e b.0)) (none i) ∙ b.2)
+pub own_before : (number : ℕ) (e : Event) (threads : List ThreadState) (i : ℕ) (t' : ThreadState) → slice_get (threads_after 0 number e threads) i ≡ Some t'
+    → (t : ThreadState) × (slice_get threads i ≡ Some t) × (thread_after number e (started i number e t) ≡ t')
+own_before number e threads i t' h =
+    let b = thread_before 0 number e threads i t' h in
+    (b.0, b.1, ap (λ (m : ℕ). thread_after number e (started m number e b.0)) (none i) ∙ b.2)
   where
     none : (i : ℕ) → i ≡ 0 + i
     none i = omega arith
 
-pub none_before : (n place : ℕ) (e : Event) (threads : List ThreadState) (k : ℕ) → slice_get (threads_after n place e threads) k ≡ None → slice_get threads k ≡ None
-none_before n place e [] k h = refl
-none_before n place e (x ∷ threads) zero h = absurd (some_none h)
+pub none_before : (n number : ℕ) (e : Event) (threads : List ThreadState) (k : ℕ) → slice_get (threads_after n number e threads) k ≡ None → slice_get threads k ≡ None
+none_before n number e [] k h = refl
+none_before n number e (x ∷ threads) zero h = absurd (some_none h)
   where
     some_none : {y : ThreadState} → Some y ≡ None → ⊥
     some_none h = cc
-none_before n place e (x ∷ threads) (suc k) h = none_before (n + 1) place e threads k h
+none_before n number e (x ∷ threads) (suc k) h = none_before (n + 1) number e threads k h
 
--- ---- what stands of a run
+-- ---- the state of a run
 
 module _ (journals : List (List Event)) (stamps : List (List ℕ)) (stamped : AreStamped journals stamps) where
-  -- so many events of each part were taken, and what is to come of each thread is in order
-  record Stands (s : Taking) (n : ℕ → ℕ) : Type 0 where
-    left : (part : ℕ) → AreBehind (journal_on journals part) (n part) (slice_index_or s.left part [])
+  -- these numbers of events of each part were taken, and what is still to come of each thread is in order
+  record IsReachedAt (s : Taking) (n : ℕ → ℕ) : Type 0 where
+    left : (part : ℕ) → ComeAfter (journal_on journals part) (n part) (slice_index_or s.left part [])
     ahead : (i : ℕ) (t : ThreadState) → slice_get s.threads i ≡ Some t → IsAhead journals stamps stamped i n t.rest t.waiting
-    others : (i part place : ℕ) → slice_get s.threads i ≡ None → IsAt (journal_on journals part) place (IsInvocationBy i) → ⊥
+    others : (i part number : ℕ) → slice_get s.threads i ≡ None → IsAt (journal_on journals part) number (IsInvocationBy i) → ⊥
 
   abbrev first_stamp : (ℕ → ℕ) → ℕ → ℕ
   first_stamp n part = stamp_at stamps part (suc (n part))
 
-  module _ (s : Taking) (n : ℕ → ℕ) (st : Stands s n) where
+  module _ (s : Taking) (n : ℕ → ℕ) (st : IsReachedAt s n) where
     next_event : (l : IsLeast s.left (first_stamp n)) → IsNextEvent journals stamps stamped n l.part l.event
     next_event l =
         let is = left_is s.left l.part (l.event ∷ l.rest) l.at in
         record {
-          here = first_behind (journal_on journals l.part) (n l.part) l.event l.rest (subst (AreBehind (journal_on journals l.part) (n l.part)) is.0 (st.left l.part));
-          least = λ part place x later at.
-              let some = is_left (journal_on journals part) (n part) (slice_index_or s.left part []) place x (st.left part) later at in
+          here = first_after (journal_on journals l.part) (n l.part) l.event l.rest (subst (ComeAfter (journal_on journals l.part) (n l.part)) is.0 (st.left l.part));
+          least = λ part number x later at.
+              let some = is_left (journal_on journals part) (n part) (slice_index_or s.left part []) number x (st.left part) later at in
               let low : stamp_at stamps l.part (suc (n l.part)) ≤ stamp_at stamps part (suc (n part)) = l.least part some.0 some.1.0 some.1.1 in
-              let kept : stamp_at stamps part (suc (n part)) ≤ stamp_at stamps part place =
-              stamps_keep journals stamps stamped part (suc (n part)) place later (place_within (journal_on journals part) place x at).1 in
+              let kept : stamp_at stamps part (suc (n part)) ≤ stamp_at stamps part number =
+              stamps_keep journals stamps stamped part (suc (n part)) number later (position_within (journal_on journals part) number x at).1 in
               sum _ _ _ low kept;
         }
       where
@@ -208,43 +208,43 @@ module _ (journals : List (List Event)) (stamps : List (List ℕ)) (stamped : Ar
     timely k (event.Stage stage answers released) next = tt
     timely k (event.Arrive frame kept) next = tt
 
-    stands_after : (k : ℕ) (e : Event) (rest : List Event) → slice_get s.left k ≡ Some (e ∷ rest) → IsNextEvent journals stamps stamped n k e
-        → Stands (after_taking s k e rest) (one_more n k)
-    stands_after k e rest at next = record {
+    holds_after : (k : ℕ) (e : Event) (rest : List Event) → slice_get s.left k ≡ Some (e ∷ rest) → IsNextEvent journals stamps stamped n k e
+        → IsReachedAt (after_taking s k e rest) (one_more n k)
+    holds_after k e rest at next = record {
       left = λ part. split (part == k)
           (λ here.
           let same : part ≡ k = eqb-true part k here in
-          subst (λ (q : ℕ). AreBehind (journal_on journals q) (one_more n k q) (slice_index_or (slice_set s.left k rest) q [])) (sym same) own)
+          subst (λ (q : ℕ). ComeAfter (journal_on journals q) (one_more n k q) (slice_index_or (slice_set s.left k rest) q [])) (sym same) own)
           (λ there.
           let apart : slice_index_or (slice_set s.left k rest) part [] ≡ slice_index_or s.left part [] =
           get_or-set_other s.left k part rest [] (λ e. eqb-false part k there e) in
-          subst (AreBehind (journal_on journals part) (one_more n k part)) (sym apart)
-          (subst (λ (m : ℕ). AreBehind (journal_on journals part) m (slice_index_or s.left part [])) (sym (one_more_there n k part there)) (st.left part)));
+          subst (ComeAfter (journal_on journals part) (one_more n k part)) (sym apart)
+          (subst (λ (m : ℕ). ComeAfter (journal_on journals part) m (slice_index_or s.left part [])) (sym (one_more_there n k part there)) (st.left part)));
       ahead = λ i t' h.
           let b = own_before k e s.threads i t' h in
           subst (λ (t : ThreadState). IsAhead journals stamps stamped i (one_more n k) t.rest t.waiting) b.2
           (ahead_after journals stamps stamped n k e next i b.0 (st.ahead i b.0 b.1));
-      others = λ i part place h at. st.others i part place (none_before 0 k e s.threads i h) at;
+      others = λ i part number h at. st.others i part number (none_before 0 k e s.threads i h) at;
     }
       where
         is : (slice_index_or s.left k [] ≡ e ∷ rest) × (k < length s.left)
         is = left_is s.left k (e ∷ rest) at
 
-        own : AreBehind (journal_on journals k) (one_more n k k) (slice_index_or (slice_set s.left k rest) k [])
-        own = subst (λ (m : ℕ). AreBehind (journal_on journals k) m (slice_index_or (slice_set s.left k rest) k [])) (sym (one_more_here n k))
-            (subst (AreBehind (journal_on journals k) (suc (n k))) (sym (get_or-set_same s.left k rest [] is.1))
-            (rest_behind (journal_on journals k) (n k) e rest (subst (AreBehind (journal_on journals k) (n k)) is.0 (st.left k))))
+        own : ComeAfter (journal_on journals k) (one_more n k k) (slice_index_or (slice_set s.left k rest) k [])
+        own = subst (λ (m : ℕ). ComeAfter (journal_on journals k) m (slice_index_or (slice_set s.left k rest) k [])) (sym (one_more_here n k))
+            (subst (ComeAfter (journal_on journals k) (suc (n k))) (sym (get_or-set_same s.left k rest [] is.1))
+            (rest_after (journal_on journals k) (n k) e rest (subst (ComeAfter (journal_on journals k) (n k)) is.0 (st.left k))))
 
-    -- ---- where no event is left
+    -- ---- no event is left
 
     through : ((part : ℕ) → slice_index_or s.left part [] ≡ []) → (i : ℕ) (t : ThreadState) → slice_get s.threads i ≡ Some t → IsThrough t
     through none i t at =
         let h : IsAhead journals stamps stamped i n t.rest t.waiting = st.ahead i t at in
         (no_rest h.last t.rest h.receipts h.follow h.to_come, no_wait h.last t.waiting h.reply)
       where
-        nothing : (part place : ℕ) (x : Event) → n part < place → at_number place (journal_on journals part) ≡ Some x → ⊥
-        nothing part place x later there =
-            let some = is_left (journal_on journals part) (n part) (slice_index_or s.left part []) place x (st.left part) later there in
+        nothing : (part number : ℕ) (x : Event) → n part < number → at_number number (journal_on journals part) ≡ Some x → ⊥
+        nothing part number x later there =
+            let some = is_left (journal_on journals part) (n part) (slice_index_or s.left part []) number x (st.left part) later there in
             not_both (sym (none part) ∙ some.1.1)
 
         no_rest : (last : ℕ) (rest : List (ℕ × Op)) (receipts : List Receipt) → Follow journals stamps i last rest receipts → AreToCome n rest receipts → rest ≡ []
@@ -254,7 +254,7 @@ module _ (journals : List (List Event)) (stamps : List (List ℕ)) (stamped : Ar
 
         no_wait : (last : ℕ) (w : Option Waiting) → HasReplyIfOpen journals stamps stamped n last w → w ≡ None
         no_wait last None h = refl
-        no_wait last (Some w) h = absurd (nothing w.part h.place h.there.event h.later h.there.there)
+        no_wait last (Some w) h = absurd (nothing w.part h.number h.there.event h.later h.there.there)
 
   -- ---- all events
 
@@ -265,7 +265,7 @@ module _ (journals : List (List Event)) (stamps : List (List ℕ)) (stamped : Ar
     pub leads : Leads s order end
     pub all : IsAllTaken end
 
-  ended : (s : Taking) (n : ℕ → ℕ) → Stands s n → ((part : ℕ) → slice_index_or s.left part [] ≡ []) → IsOrdered s
+  ended : (s : Taking) (n : ℕ → ℕ) → IsReachedAt s n → ((part : ℕ) → slice_index_or s.left part [] ≡ []) → IsOrdered s
   ended s n st none =
       record { order = []; end = s; leads = refl; all = record { none_left = none; through = each s.threads (λ i t at. through s n st none i t at) } }
     where
@@ -273,7 +273,7 @@ module _ (journals : List (List Event)) (stamps : List (List ℕ)) (stamped : Ar
       each [] h = tt
       each (t ∷ threads) h = (h 0 t refl, each threads (λ i x at. h (suc i) x at))
 
-  ordered : (m : ℕ) (s : Taking) (n : ℕ → ℕ) → events_count s.left ≡ m → Stands s n → IsOrdered s
+  ordered : (m : ℕ) (s : Taking) (n : ℕ → ℕ) → events_count s.left ≡ m → IsReachedAt s n → IsOrdered s
   ordered zero s n size st = elim (find_least s.left (first_stamp n)) [
     | inl none ↦ ended s n st none
     | inr l ↦ absurd (none_left s.left l.part size l.event l.rest l.at)
@@ -285,7 +285,7 @@ module _ (journals : List (List Event)) (stamps : List (List ℕ)) (stamped : Ar
         let may : MayTake s l.part = record { event = l.event; rest = l.rest; at = l.at; timely = timely s n st l.part l.event next } in
         let more : IsOrdered (after_taking s l.part l.event l.rest) =
         ordered m (after_taking s l.part l.event l.rest) (one_more n l.part) (less (sym (one_fewer s.left l.part l.event l.rest l.at) ∙ size))
-        (stands_after s n st l.part l.event l.rest l.at next) in
+        (holds_after s n st l.part l.event l.rest l.at next) in
         record { order = l.part ∷ more.order; end = more.end; leads = (may, more.leads); all = more.all }
   ]
     where
@@ -314,7 +314,7 @@ module _ (journals : List (List Event)) (stamps : List (List ℕ)) (stamped : Ar
   have_receipts i last (o ∷ ops) [] f = absurd f
   have_receipts i last ((part, op) ∷ ops) (r ∷ receipts) f = (f.0, have_receipts i (stamp_at stamps part r.at_reply) ops receipts f.2)
 
-  -- a thread's invocations rise in each journal
+  -- the numbers of a thread's invocations rise in each journal
   pub rising_on : (i last low part : ℕ) (ops : List (ℕ × Op)) (receipts : List Receipt) → Follow journals stamps i last ops receipts
       → low ≤ length (journal_on journals part) → stamp_at stamps part low ≤ last → IsRisingFrom low (invoked_on part ops receipts)
   rising_on i last low part [] receipts f within l = tt
@@ -327,13 +327,13 @@ module _ (journals : List (List Event)) (stamps : List (List ℕ)) (stamped : Ar
       let same : p ≡ part = eqb-true p part here in
       let above : stamp_at stamps part low < stamp_at stamps part r.at_invoke =
       subst (λ (q : ℕ). stamp_at stamps part low < stamp_at stamps q r.at_invoke) same (omega arith) in
-      let low_is : low < r.at_invoke = later_place journals stamps stamped part low r.at_invoke within above in
-      let place : r.at_invoke ≤ length (journal_on journals part) =
-      subst (λ (q : ℕ). r.at_invoke ≤ length (journal_on journals q)) same (place_within (journal_on journals p) r.at_invoke f.0.invoked.event f.0.invoked.there).1 in
+      let low_is : low < r.at_invoke = later_position journals stamps stamped part low r.at_invoke within above in
+      let number : r.at_invoke ≤ length (journal_on journals part) =
+      subst (λ (q : ℕ). r.at_invoke ≤ length (journal_on journals q)) same (position_within (journal_on journals p) r.at_invoke f.0.invoked.event f.0.invoked.there).1 in
       let kept : stamp_at stamps part r.at_invoke ≤ stamp_at stamps p r.at_reply =
       subst (λ (q : ℕ). stamp_at stamps q r.at_invoke ≤ stamp_at stamps p r.at_reply) same mid in
       subst (IsRisingFrom low) (sym (if_true (p == part) (r.at_invoke ∷ invoked_on part ops receipts) (invoked_on part ops receipts) here))
-      (low_is, rising_on i (stamp_at stamps p r.at_reply) r.at_invoke part ops receipts f.2 place kept))
+      (low_is, rising_on i (stamp_at stamps p r.at_reply) r.at_invoke part ops receipts f.2 number kept))
       (λ there.
       subst (IsRisingFrom low) (sym (if_false (p == part) (r.at_invoke ∷ invoked_on part ops receipts) (invoked_on part ops receipts) there))
       (rising_on i (stamp_at stamps p r.at_reply) low part ops receipts f.2 within (omega arith)))
@@ -342,40 +342,40 @@ module _ (journals : List (List Event)) (stamps : List (List ℕ)) (stamped : Ar
   all_to_come i last [] receipts f = tt
   all_to_come i last (o ∷ ops) [] f = tt
   all_to_come i last ((p, op) ∷ ops) (r ∷ receipts) f =
-      ((place_within (journal_on journals p) r.at_invoke f.0.invoked.event f.0.invoked.there).0, all_to_come i (stamp_at stamps p r.at_reply) ops receipts f.2)
+      ((position_within (journal_on journals p) r.at_invoke f.0.invoked.event f.0.invoked.there).0, all_to_come i (stamp_at stamps p r.at_reply) ops receipts f.2)
 
-  invoked_in : (part place : ℕ) (ops : List (ℕ × Op)) (receipts : List Receipt) → Has place (invoked_on part ops receipts) → IsInvokedIn part place ops receipts
-  invoked_in part place [] receipts h = absurd h
-  invoked_in part place (o ∷ ops) [] h = absurd h
-  invoked_in part place ((p, op) ∷ ops) (r ∷ receipts) h = split (p == part)
-      (λ here. by_place (eqb-true p part here) (λ x. invoked_in part place ops receipts x)
-      (subst (Has place) (if_true (p == part) (r.at_invoke ∷ invoked_on part ops receipts) (invoked_on part ops receipts) here) h))
-      (λ there. inr (invoked_in part place ops receipts
-      (subst (Has place) (if_false (p == part) (r.at_invoke ∷ invoked_on part ops receipts) (invoked_on part ops receipts) there) h)))
+  invoked_in : (part number : ℕ) (ops : List (ℕ × Op)) (receipts : List Receipt) → Has number (invoked_on part ops receipts) → IsInvokedIn part number ops receipts
+  invoked_in part number [] receipts h = absurd h
+  invoked_in part number (o ∷ ops) [] h = absurd h
+  invoked_in part number ((p, op) ∷ ops) (r ∷ receipts) h = split (p == part)
+      (λ here. by_position (eqb-true p part here) (λ x. invoked_in part number ops receipts x)
+      (subst (Has number) (if_true (p == part) (r.at_invoke ∷ invoked_on part ops receipts) (invoked_on part ops receipts) here) h))
+      (λ there. inr (invoked_in part number ops receipts
+      (subst (Has number) (if_false (p == part) (r.at_invoke ∷ invoked_on part ops receipts) (invoked_on part ops receipts) there) h)))
     where
-      by_place : p ≡ part → (Has place (invoked_on part ops receipts) → IsInvokedIn part place ops receipts)
-          → (place ≡ r.at_invoke) ⊎ Has place (invoked_on part ops receipts) → ((p ≡ part) × (r.at_invoke ≡ place)) ⊎ IsInvokedIn part place ops receipts
-      by_place same more (inl x) = inl (same, sym x)
-      by_place same more (inr x) = inr (more x)
+      by_position : p ≡ part → (Has number (invoked_on part ops receipts) → IsInvokedIn part number ops receipts)
+          → (number ≡ r.at_invoke) ⊎ Has number (invoked_on part ops receipts) → ((p ≡ part) × (r.at_invoke ≡ number)) ⊎ IsInvokedIn part number ops receipts
+      by_position same more (inl x) = inl (same, sym x)
+      by_position same more (inr x) = inr (more x)
 
-  -- places that are those of all events of a kind hold each
-  all_held : (test : Event → Bool) (journal : List Event) (n : ℕ) (events : List Event) (places : List ℕ) → AreBehind journal n events
-      → AreAll test journal n events places → (j : ℕ) (e : Event) → slice_get events j ≡ Some e → test e ≡ true → Has (suc (n + j)) places
-  all_held test journal n [] places are all j e at passes = none_is_some at
+  -- the numbers of all events of a kind include each of them
+  all_held : (test : Event → Bool) (journal : List Event) (n : ℕ) (events : List Event) (numbers : List ℕ) → ComeAfter journal n events
+      → AreAll test journal n events numbers → (j : ℕ) (e : Event) → slice_get events j ≡ Some e → test e ≡ true → Has (suc (n + j)) numbers
+  all_held test journal n [] numbers are all j e at passes = none_is_some at
   all_held test journal n (x ∷ events) [] are all zero e at passes =
       absurd (wrong (length (filter test events)) (all.count ∙ ap length (filter_same test x events (subst (λ (y : Event). test y ≡ true) (sym (same_inside at)) passes))))
     where
       wrong : (n : ℕ) → 0 ≡ suc n → ⊥
       wrong n e = omega arith
-  all_held test journal n (x ∷ events) (place ∷ places) are all zero e at passes =
-      inl (sym ((passes_first test journal n x events place places are (subst (λ (y : Event). test y ≡ true) (sym (same_inside at)) passes) all).0 ∙ plus n))
+  all_held test journal n (x ∷ events) (number ∷ numbers) are all zero e at passes =
+      inl (sym ((passes_first test journal n x events number numbers are (subst (λ (y : Event). test y ≡ true) (sym (same_inside at)) passes) all).0 ∙ plus n))
     where
       plus : (n : ℕ) → suc n ≡ suc (n + 0)
       plus n = omega arith
-  all_held test journal n (x ∷ events) places are all (suc j) e at passes = split (test x)
-      (λ holds. by_places places holds all (λ more here. all_held test journal (suc n) events more (rest_behind journal n x events are) here j e at passes))
-      (λ fails. subst (λ (m : ℕ). Has m places) (next n j)
-      (all_held test journal (suc n) events places (rest_behind journal n x events are) (passes_not test journal n x events places are fails all) j e at passes))
+  all_held test journal n (x ∷ events) numbers are all (suc j) e at passes = split (test x)
+      (λ holds. by_positions numbers holds all (λ more here. all_held test journal (suc n) events more (rest_after journal n x events are) here j e at passes))
+      (λ fails. subst (λ (m : ℕ). Has m numbers) (next n j)
+      (all_held test journal (suc n) events numbers (rest_after journal n x events are) (passes_not test journal n x events numbers are fails all) j e at passes))
     where
       next : (n j : ℕ) → suc (suc n + j) ≡ suc (n + suc j)
       next n j = omega arith
@@ -383,13 +383,13 @@ module _ (journals : List (List Event)) (stamps : List (List ℕ)) (stamped : Ar
       wrong : (n : ℕ) → 0 ≡ suc n → ⊥
       wrong n e = omega arith
 
-      by_places : (places : List ℕ) → test x ≡ true → AreAll test journal n (x ∷ events) places
-          → ((more : List ℕ) → AreAll test journal (suc n) events more → Has (suc (suc n + j)) more) → Has (suc (n + suc j)) places
-      by_places [] holds all held = absurd (wrong (length (filter test events)) (all.count ∙ ap length (filter_same test x events holds)))
-      by_places (place ∷ more) holds all held =
-          inr (subst (λ (m : ℕ). Has m more) (next n j) (held more (passes_first test journal n x events place more are holds all).1))
+      by_positions : (numbers : List ℕ) → test x ≡ true → AreAll test journal n (x ∷ events) numbers
+          → ((more : List ℕ) → AreAll test journal (suc n) events more → Has (suc (suc n + j)) more) → Has (suc (n + suc j)) numbers
+      by_positions [] holds all held = absurd (wrong (length (filter test events)) (all.count ∙ ap length (filter_same test x events holds)))
+      by_positions (number ∷ more) holds all held =
+          inr (subst (λ (m : ℕ). Has m more) (next n j) (held more (passes_first test journal n x events number more are holds all).1))
 
-  -- a part's journal has the thread's operations on the part; there is no journal where there is no part
+  -- a part's journal has the thread's operations on the part; a part that does not exist has no journal
   counted_at : (threads : List ThreadSpec) (i first : ℕ) (parts : List PartSpec) (js : List (List Event)) → HaveNoOthers threads first parts js → (k : ℕ)
       → (length (filter (is_invocation_by i) (slice_index_or js k [])) ≡ operations_on (first + k) (slice_get threads i)) ⊎ (slice_index_or js k [] ≡ [])
   counted_at threads i first [] [] h k = inr refl
@@ -420,42 +420,42 @@ module _ (journals : List (List Event)) (stamps : List (List ℕ)) (stamped : Ar
         first : (p : ℕ) → 0 + p ≡ p
         first p = omega arith
 
-    -- an event at a place of an empty journal
-    no_event : (part place : ℕ) (P : Event → Type 0) → journal_on journals part ≡ [] → IsAt (journal_on journals part) place P → ⊥
-    no_event part place P empty at = by_place place (subst (λ (j : List Event). at_number place j ≡ Some at.event) empty at.there)
+    -- an empty journal has no event
+    no_event : (part number : ℕ) (P : Event → Type 0) → journal_on journals part ≡ [] → IsAt (journal_on journals part) number P → ⊥
+    no_event part number P empty at = by_position number (subst (λ (j : List Event). at_number number j ≡ Some at.event) empty at.there)
       where
-        by_place : (p : ℕ) → at_number p [] ≡ Some at.event → ⊥
-        by_place zero h = none_is_some h
-        by_place (suc p) h = none_is_some h
+        by_position : (p : ℕ) → at_number p [] ≡ Some at.event → ⊥
+        by_position zero h = none_is_some h
+        by_position (suc p) h = none_is_some h
 
-    invoked_all : (i : ℕ) (t : ThreadSpec) (receipts : List Receipt) → slice_get threads i ≡ Some t → Follow journals stamps i 0 t.ops receipts → (part place : ℕ)
-        → IsAt (journal_on journals part) place (IsInvocationBy i) → IsInvokedIn part place t.ops receipts
-    invoked_all i t receipts at f part place inv = elim (counted i part (Some t) at) [
-      | inl size ↦ by_place size place inv.there
-      | inr empty ↦ absurd (no_event part place (IsInvocationBy i) empty inv)
+    invoked_all : (i : ℕ) (t : ThreadSpec) (receipts : List Receipt) → slice_get threads i ≡ Some t → Follow journals stamps i 0 t.ops receipts → (part number : ℕ)
+        → IsAt (journal_on journals part) number (IsInvocationBy i) → IsInvokedIn part number t.ops receipts
+    invoked_all i t receipts at f part number inv = elim (counted i part (Some t) at) [
+      | inl size ↦ by_position size number inv.there
+      | inr empty ↦ absurd (no_event part number (IsInvocationBy i) empty inv)
     ]
       where
-        by_place : length (filter (is_invocation_by i) (journal_on journals part)) ≡ length (filter (is_on part) t.ops) → (p : ℕ)
+        by_position : length (filter (is_invocation_by i) (journal_on journals part)) ≡ length (filter (is_on part) t.ops) → (p : ℕ)
             → at_number p (journal_on journals part) ≡ Some inv.event → IsInvokedIn part p t.ops receipts
-        by_place size zero there = none_is_some there
-        by_place size (suc m) there =
+        by_position size zero there = none_is_some there
+        by_position size (suc m) there =
             let on = invoked_are part (journal_on journals part) journals refl i t.ops receipts (have_receipts i 0 t.ops receipts f) in
-            let placed = placed_are (journal_on journals part) i (filter (is_on part) t.ops) (invoked_on part t.ops receipts) on in
+            let indexed = numbered_are (journal_on journals part) i (filter (is_on part) t.ops) (invoked_on part t.ops receipts) on in
             let all : AreAll (is_invocation_by i) (journal_on journals part) 0 (journal_on journals part) (invoked_on part t.ops receipts) = record {
               rising = rising_on i 0 0 part t.ops receipts f (omega arith) (omega arith);
-              placed = placed.0;
-              count = placed.1 ∙ sym size;
+              indexed = indexed.0;
+              count = indexed.1 ∙ sym size;
             } in
             invoked_in part (suc m) t.ops receipts (subst (λ (k : ℕ). Has (suc k) (invoked_on part t.ops receipts)) (plus m)
-            (all_held (is_invocation_by i) (journal_on journals part) 0 (journal_on journals part) (invoked_on part t.ops receipts) (all_behind (journal_on journals part)) all m inv.event
+            (all_held (is_invocation_by i) (journal_on journals part) 0 (journal_on journals part) (invoked_on part t.ops receipts) (all_after (journal_on journals part)) all m inv.event
             there inv.is))
           where
             plus : (m : ℕ) → 0 + m ≡ m
             plus m = omega arith
 
-    stands_first : Stands (opening_taking threads journals) (λ part. 0)
-    stands_first = record {
-      left = λ part. all_behind (journal_on journals part);
+    holds_first : IsReachedAt (opening_taking threads journals) (λ part. 0)
+    holds_first = record {
+      left = λ part. all_after (journal_on journals part);
       ahead = λ i t at.
           let from = from_map opening_thread threads i t at in
           let own : IsInOrder journals stamps i from.0.ops = subst (λ (k : ℕ). IsInOrder journals stamps k from.0.ops) (first i) (in_order_at 0 threads i from.0 in_order from.1) in
@@ -464,12 +464,12 @@ module _ (journals : List (List Event)) (stamps : List (List ℕ)) (stamped : Ar
             receipts = own.receipts;
             follow = own.follow;
             to_come = all_to_come i 0 from.0.ops own.receipts own.follow;
-            all = λ part place l inv. invoked_all i from.0 own.receipts from.1 own.follow part place inv;
+            all = λ part number l inv. invoked_all i from.0 own.receipts from.1 own.follow part number inv;
             reply = tt;
           });
-      others = λ i part place at inv. elim (counted i part None (none_of_map opening_thread threads i at)) [
-        | inl size ↦ absurd (no_invocation (journal_on journals part) i size place inv)
-        | inr empty ↦ no_event part place (IsInvocationBy i) empty inv
+      others = λ i part number at inv. elim (counted i part None (none_of_map opening_thread threads i at)) [
+        | inl size ↦ absurd (no_invocation (journal_on journals part) i size number inv)
+        | inr empty ↦ no_event part number (IsInvocationBy i) empty inv
       ];
     }
       where
@@ -481,16 +481,16 @@ module _ (journals : List (List Event)) (stamps : List (List ℕ)) (stamped : Ar
         none_of_map f (x ∷ xs) zero h = cc
         none_of_map f (x ∷ xs) (suc k) h = none_of_map f xs k h
 
-        no_place : (journal : List Event) (i : ℕ) → length (filter (is_invocation_by i) journal) ≡ 0 → (m : ℕ) (e : Event) → slice_get journal m ≡ Some e
+        no_position : (journal : List Event) (i : ℕ) → length (filter (is_invocation_by i) journal) ≡ 0 → (m : ℕ) (e : Event) → slice_get journal m ≡ Some e
             → is_invocation_by i e ≡ true → ⊥
-        no_place [] i size m e at is = none_is_some at
-        no_place (x ∷ journal) i size zero e at is =
+        no_position [] i size m e at is = none_is_some at
+        no_position (x ∷ journal) i size zero e at is =
             wrong (length (filter (is_invocation_by i) journal))
             (sym size ∙ ap length (filter_same (is_invocation_by i) x journal (subst (λ (y : Event). is_invocation_by i y ≡ true) (sym (same_inside at)) is)))
           where
             wrong : (n : ℕ) → 0 ≡ suc n → ⊥
             wrong n e = omega arith
-        no_place (x ∷ journal) i size (suc m) e at is = no_place journal i (fewer (is_invocation_by i) x journal size) m e at is
+        no_position (x ∷ journal) i size (suc m) e at is = no_position journal i (fewer (is_invocation_by i) x journal size) m e at is
           where
             fewer : (test : Event → Bool) (e : Event) (events : List Event) → length (filter test (e ∷ events)) ≡ 0 → length (filter test events) ≡ 0
             fewer test e events h = split (test e)
@@ -500,9 +500,9 @@ module _ (journals : List (List Event)) (stamps : List (List ℕ)) (stamped : Ar
                 wrong : (n : ℕ) → 0 ≡ suc n → ⊥
                 wrong n e = omega arith
 
-        no_invocation : (journal : List Event) (i : ℕ) → length (filter (is_invocation_by i) journal) ≡ 0 → (place : ℕ) → IsAt journal place (IsInvocationBy i) → ⊥
+        no_invocation : (journal : List Event) (i : ℕ) → length (filter (is_invocation_by i) journal) ≡ 0 → (number : ℕ) → IsAt journal number (IsInvocationBy i) → ⊥
         no_invocation journal i size zero inv = none_is_some inv.there
-        no_invocation journal i size (suc m) inv = no_place journal i size m inv.event inv.there inv.is
+        no_invocation journal i size (suc m) inv = no_position journal i size m inv.event inv.there inv.is
 
 -- journals that are one run can be taken event by event
 pub one_run_ordered : (threads : List ThreadSpec) (parts : List PartSpec) (journals : List (List Event)) → HaveNoOthers threads 0 parts journals → AreOneRun threads journals
@@ -510,5 +510,5 @@ pub one_run_ordered : (threads : List ThreadSpec) (parts : List PartSpec) (journ
 one_run_ordered threads parts journals none one =
     let o : IsOrdered journals one.stamps one.stamped (opening_taking threads journals) =
     ordered journals one.stamps one.stamped (events_count journals) (opening_taking threads journals) (λ part. 0) refl
-    (stands_first journals one.stamps one.stamped threads parts none one.in_order) in
+    (holds_first journals one.stamps one.stamped threads parts none one.in_order) in
     (o.order, (o.end, (o.leads, o.all)))

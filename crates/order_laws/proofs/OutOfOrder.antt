@@ -8,7 +8,7 @@ use Rattle.nook_data.specs.declared.scenario.PartSpec.{PartSpec}
 use Rattle.nook_data.specs.declared.scenario.Scenario.{Scenario}
 use Rattle.nook_data.specs.declared.steps.Event.{Event}
 use Rattle.nook_data.specs.declared.steps.Event.TheVariants as event
-use Rattle.part_laws.proofs.Places.{split}
+use Rattle.part_laws.proofs.Indices.{split}
 use Rattle.report_defs.specs.ReportText.{part_text}
 use Rattle.run_defs.specs.Simulation.{ThreadState, Waiting, events_count}
 use Rattle.run_laws.proofs.Passing.{report_fits}
@@ -17,7 +17,7 @@ use Rattle.run_laws.specs.Fitting.{AllFit, fitting_text}
 use Rattle.audited_runs.proofs.NoOthers.{have_no_others}
 use Rattle.audited_runs.proofs.Threaded.{same_count}
 use Rattle.order_defs.specs.OneClock.{AreOneRun}
-use Rattle.order_defs.specs.OutOfOrder.{Finds, FindsBehind, IsOutOfOrder, first_left, lines_in}
+use Rattle.order_defs.specs.OutOfOrder.{Finds, FindsAfter, IsOutOfOrder, first_left, lines_in}
 use Rattle.order_defs.specs.Taking.{IsNextOf, IsStuck, IsTimely, Leads, MayTake, Taking, after_taking, opening_taking}
 use Rattle.order_laws.proofs.Emptied.{emptied_one_run, set_length}
 use Rattle.order_laws.proofs.Greedy.{all_stuck, ends_same, one_run_taken}
@@ -27,7 +27,7 @@ use Rattle.order_laws.proofs.PartAlone.{AllFitLeft, FitsLeft, all_fit_left, fit_
 not_empty : {X : Type 0} {x : X} {xs : List X} → [] ≡ x ∷ xs → ⊥
 not_empty h = cc
 
--- ---- the first event that is left
+-- ---- the first event left
 
 first_none : (line part : ℕ) (specs : List PartSpec) (journals left : List (List Event)) → ((k : ℕ) → slice_index_or left k [] ≡ [])
     → first_left line part specs journals left ≡ None
@@ -222,7 +222,7 @@ out_of_order_exists scenario journals fits =
 
 -- ---- reports that pass
 
-found_one_run : (scenario : Scenario) (report : List ℕ) (first : Option ℕ) → IsValidScenario scenario → FindsBehind scenario report first None
+found_one_run : (scenario : Scenario) (report : List ℕ) (first : Option ℕ) → IsValidScenario scenario → FindsAfter scenario report first None
     → (journals : List (List Event)) × AllFit scenario.threads 0 scenario.parts journals × AreOneRun scenario.threads journals
     × (report ≡ fitting_text scenario journals)
 found_one_run scenario report None v found =
@@ -239,7 +239,7 @@ pub one_run_passes : (scenario : Scenario) (report : List ℕ) (journals : List 
     → Finds scenario report None
 one_run_passes scenario report journals v fits one text =
     let none : audited scenario report ≡ None = ap (audited scenario) text ∙ report_fits scenario journals v fits in
-    subst (λ (first : Option ℕ). FindsBehind scenario report first None) (sym none) (record {
+    subst (λ (first : Option ℕ). FindsAfter scenario report first None) (sym none) (record {
       journals = journals;
       fit = fits;
       text_is = text;

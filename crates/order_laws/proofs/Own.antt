@@ -1,4 +1,4 @@
--- An event that may be taken is its thread's own, in the words of the simulation.
+-- An event that may be taken is its thread's own, as the simulation defines it.
 use Rattle.std.proofs.Common.{◌≡◌, ℕ, ◌+◌, List, slice_get, ap, arith}
 use Rattle.nook_data.specs.declared.steps.Event.{Event}
 use Rattle.nook_data.specs.declared.steps.Event.TheVariants as event

@@ -1,4 +1,4 @@
--- Where journals fit, an invocation that is its thread's next by its part is its next operation.
+-- If journals fit, an invocation on the part of its thread's next operation is that operation.
 use Rattle.std.proofs.Common.{◌≡◌, ℕ, zero, suc, ◌+◌, ◌<◌, ◌==◌, false, Option, Some, None, List, [], ◌∷◌, filter, length, map, slice_get, slice_index_or, slice_set, refl, sym, ap, ◌∙◌, subst, arith, eqb-true, eq-eqb}
 use Rattle.std.proofs.lemmas.Bool.{eqb-false}
 use Rattle.std.proofs.lemmas.List.{get_or-set_other, get_or-set_same}
@@ -14,7 +14,7 @@ use Rattle.nook_data.specs.declared.steps.Step.{Step}
 use Rattle.nook_data.specs.declared.steps.Step.TheVariants as step
 use Rattle.nook_data.proofs.Options.{same_inside}
 use Rattle.part_defs.specs.Runs.{step_of}
-use Rattle.part_laws.proofs.Places.{split}
+use Rattle.part_laws.proofs.Indices.{split}
 use Rattle.run_defs.specs.Simulation.{RunningPart, ThreadState, opening_part, opening_thread, part_after, threads_after}
 use Rattle.run_laws.specs.Audit.{Section, invocation_by, is_on, section_after, thread_on}
 use Rattle.run_laws.specs.Fitting.{AllFit, FitsFrom}
@@ -23,11 +23,11 @@ use Rattle.order_defs.specs.Taking.{IsTimely, Leads, MayTake, Taking, after_taki
 use Rattle.order_laws.proofs.Ordered.{left_is}
 use Rattle.order_laws.proofs.Own.{all_timely}
 
--- a part's section, by its share of the threads
+-- a part's section, with its share of the threads
 abbrev pub section_at : ℕ → PartSpec → RunningPart → List ThreadState → Section
-section_at k spec seat threads = record { place = k; spec = spec; seat = seat; threads = threads }
+section_at k spec seat threads = record { index = k; spec = spec; seat = seat; threads = threads }
 
--- what is left of a part fits the part, and what the threads have left
+-- a part's remaining events fit the part and the threads' remaining operations
 pub record FitsLeft (k : ℕ) (left : List Event) (threads : List ThreadState) : Type 0 where
   pub spec : PartSpec
   pub seat : RunningPart
@@ -55,7 +55,7 @@ other_left k j e left threads apart may h = record {
 
 -- ---- an order
 
--- what is left of each part fits
+-- the remaining events of each part fit
 abbrev pub AllFitLeft : ℕ → Taking → Type 0
 AllFitLeft n s = (j : ℕ) → j < n → FitsLeft j (slice_index_or s.left j []) s.threads
 
@@ -80,9 +80,9 @@ fit_along n (k ∷ order) s end leads h =
 
 -- ---- the beginning
 
-shares_first : (place : ℕ) (threads : List ThreadSpec) → map (thread_on place) threads ≡ map (share_of place) (map opening_thread threads)
-shares_first place [] = refl
-shares_first place (t ∷ threads) = ap {B = List ThreadState} (λ ts. thread_on place t ∷ ts) (shares_first place threads)
+shares_first : (index : ℕ) (threads : List ThreadSpec) → map (thread_on index) threads ≡ map (share_of index) (map opening_thread threads)
+shares_first index [] = refl
+shares_first index (t ∷ threads) = ap {B = List ThreadState} (λ ts. thread_on index t ∷ ts) (shares_first index threads)
 
 fit_first : (threads : List ThreadSpec) (first : ℕ) (parts : List PartSpec) (journals : List (List Event)) → AllFit threads first parts journals → (k : ℕ)
     → k < length journals → FitsLeft (first + k) (slice_index_or journals k []) (map opening_thread threads)
@@ -105,7 +105,7 @@ fit_first threads first (spec ∷ parts) (j ∷ journals) h (suc k) low =
     next : (n k : ℕ) → suc n + k ≡ n + suc k
     next n k = omega arith
 
--- journals that fit do so still, as far as they are left
+-- the remaining events of journals that fit still fit
 pub all_fit_left : (threads : List ThreadSpec) (parts : List PartSpec) (journals : List (List Event)) (order : List ℕ) (s : Taking) → AllFit threads 0 parts journals
     → Leads (opening_taking threads journals) order s → AllFitLeft (length journals) s
 all_fit_left threads parts journals order s fits leads =

@@ -1,4 +1,4 @@
--- A report is that of one list of journals that fit, so an audit finds one line.
+-- At most one list of journals that fit has a given report, so an audit finds one line.
 use Rattle.std.proofs.Common.{◌≡◌, ℕ, suc, Option, Some, None, true, List, [], ◌∷◌, ◌++◌, refl, sym, ap, ap₂, ◌∙◌, subst, append_assoc, true≢false}
 use Rattle.std.proofs.lemmas.List.Elements.{recursion_from_All}
 use Rattle.std.specs.List.{AllByRecursion}
@@ -24,7 +24,7 @@ use Rattle.run_laws.proofs.Wholes.{section_end_ended, section_end_other}
 use Rattle.run_laws.proofs.Words.{decimal_numbered}
 use Rattle.run_laws.specs.Audit.{Section, audited, is_ended, is_numbered, last_lines, lines_of, opening_section, section_after, section_end, step_named}
 use Rattle.run_laws.specs.Fitting.{AllFit, FitsFrom, fitting_text, section_from, sections_of}
-use Rattle.order_defs.specs.OutOfOrder.{Finds, FindsBehind, IsOutOfOrder}
+use Rattle.order_defs.specs.OutOfOrder.{Finds, FindsAfter, IsOutOfOrder}
 use Rattle.order_laws.proofs.OutOfOrder.{out_of_order_exists, out_of_order_once}
 
 -- ---- texts that begin alike
@@ -52,7 +52,7 @@ event_numbered : (n : ℕ) (e : Event) → is_numbered (event_line n e) ≡ true
 unfolding event_line
 event_numbered n e = decimal_numbered n _
 
--- the line of an event is not the first of those behind the events
+-- the line of an event is not the first of those after the events
 no_end : (n : ℕ) (e : Event) (s : Section) (x y : List ℕ) → event_line n e ++ x ≡ section_end s ++ y → ⊥
 no_end n e s x y h = true≢false (
     sym (event_numbered n e)
@@ -93,39 +93,39 @@ events_same s n (e ∷ js) (i ∷ ks) x y f h k same =
 
 -- ---- the sections
 
-part_begins : (threads : List ThreadSpec) (place : ℕ) (spec : PartSpec) (journal : List Event) (rest : List ℕ)
-    → FitsFrom (opening_section threads place spec) journal
-    → part_text place spec journal ++ rest
-    ≡ part_line place spec ++ (event_lines 1 journal ++ (section_end (section_from (opening_section threads place spec) journal) ++ rest))
+part_begins : (threads : List ThreadSpec) (index : ℕ) (spec : PartSpec) (journal : List Event) (rest : List ℕ)
+    → FitsFrom (opening_section threads index spec) journal
+    → part_text index spec journal ++ rest
+    ≡ part_line index spec ++ (event_lines 1 journal ++ (section_end (section_from (opening_section threads index spec) journal) ++ rest))
 unfolding part_text
-part_begins threads place spec journal rest h =
-    four_pieces (part_line place spec) (event_lines 1 journal) _ rest
-    ∙ ap (λ x. part_line place spec ++ (event_lines 1 journal ++ (x ++ rest))) (sym (section_end_is threads place spec journal h))
+part_begins threads index spec journal rest h =
+    four_pieces (part_line index spec) (event_lines 1 journal) _ rest
+    ∙ ap (λ x. part_line index spec ++ (event_lines 1 journal ++ (x ++ rest))) (sym (section_end_is threads index spec journal h))
   where
     four_pieces : (a b c d : List ℕ) → (a ++ (b ++ c)) ++ d ≡ a ++ (b ++ (c ++ d))
     four_pieces a b c d = simp append_assoc
 
-parts_same : (threads : List ThreadSpec) (place : ℕ) (specs : List PartSpec) (js ks : List (List Event)) (x y : List ℕ)
-    → AllByRecursion IsValidPart specs → AllFit threads place specs js → AllFit threads place specs ks
-    → parts_text place specs js ++ x ≡ parts_text place specs ks ++ y → js ≡ ks
+parts_same : (threads : List ThreadSpec) (index : ℕ) (specs : List PartSpec) (js ks : List (List Event)) (x y : List ℕ)
+    → AllByRecursion IsValidPart specs → AllFit threads index specs js → AllFit threads index specs ks
+    → parts_text index specs js ++ x ≡ parts_text index specs ks ++ y → js ≡ ks
 unfolding AllFit parts_text
-parts_same threads place [] [] [] x y v h k same = refl
-parts_same threads place [] [] (b ∷ ks) x y v h k same = absurd k
-parts_same threads place [] (a ∷ js) ks x y v h k same = absurd h
-parts_same threads place (spec ∷ specs) [] ks x y v h k same = absurd h
-parts_same threads place (spec ∷ specs) (a ∷ js) [] x y v h k same = absurd k
-parts_same threads place (spec ∷ specs) (a ∷ js) (b ∷ ks) x y v h k same =
-    let texts : part_line place spec ++ (event_lines 1 a ++ (section_end (section_from (opening_section threads place spec) a) ++ (parts_text (suc place) specs js ++ x)))
-    ≡ part_line place spec ++ (event_lines 1 b ++ (section_end (section_from (opening_section threads place spec) b) ++ (parts_text (suc place) specs ks ++ y))) =
-    sym (part_begins threads place spec a (parts_text (suc place) specs js ++ x) h.0)
-    ∙ sym (append_assoc (part_text place spec a) (parts_text (suc place) specs js) x)
+parts_same threads index [] [] [] x y v h k same = refl
+parts_same threads index [] [] (b ∷ ks) x y v h k same = absurd k
+parts_same threads index [] (a ∷ js) ks x y v h k same = absurd h
+parts_same threads index (spec ∷ specs) [] ks x y v h k same = absurd h
+parts_same threads index (spec ∷ specs) (a ∷ js) [] x y v h k same = absurd k
+parts_same threads index (spec ∷ specs) (a ∷ js) (b ∷ ks) x y v h k same =
+    let texts : part_line index spec ++ (event_lines 1 a ++ (section_end (section_from (opening_section threads index spec) a) ++ (parts_text (suc index) specs js ++ x)))
+    ≡ part_line index spec ++ (event_lines 1 b ++ (section_end (section_from (opening_section threads index spec) b) ++ (parts_text (suc index) specs ks ++ y))) =
+    sym (part_begins threads index spec a (parts_text (suc index) specs js ++ x) h.0)
+    ∙ sym (append_assoc (part_text index spec a) (parts_text (suc index) specs js) x)
     ∙ same
-    ∙ append_assoc (part_text place spec b) (parts_text (suc place) specs ks) y
-    ∙ part_begins threads place spec b (parts_text (suc place) specs ks ++ y) k.0 in
+    ∙ append_assoc (part_text index spec b) (parts_text (suc index) specs ks) y
+    ∙ part_begins threads index spec b (parts_text (suc index) specs ks ++ y) k.0 in
     let both =
-    events_same (opening_section threads place spec) 1 a b (parts_text (suc place) specs js ++ x) (parts_text (suc place) specs ks ++ y)
-    (opening_fit spec (valid_fits spec v.0)) h.0 k.0 (cancel (part_line place spec) _ _ texts) in
-    ap₂ (λ (c : List Event) cs. c ∷ cs) both.0 (parts_same threads (suc place) specs js ks x y v.1 h.1 k.1 both.1)
+    events_same (opening_section threads index spec) 1 a b (parts_text (suc index) specs js ++ x) (parts_text (suc index) specs ks ++ y)
+    (opening_fit spec (valid_fits spec v.0)) h.0 k.0 (cancel (part_line index spec) _ _ texts) in
+    ap₂ (λ (c : List Event) cs. c ∷ cs) both.0 (parts_same threads (suc index) specs js ks x y v.1 h.1 k.1 both.1)
 
 pub journals_once : (scenario : Scenario) (journals others : List (List Event)) → IsValidScenario scenario
     → AllFit scenario.threads 0 scenario.parts journals → AllFit scenario.threads 0 scenario.parts others
@@ -137,8 +137,8 @@ journals_once scenario journals others v h k same =
 
 -- ---- what an audit finds
 
-found_once : (scenario : Scenario) (report : List ℕ) (first line other : Option ℕ) → IsValidScenario scenario → FindsBehind scenario report first line
-    → FindsBehind scenario report first other → line ≡ other
+found_once : (scenario : Scenario) (report : List ℕ) (first line other : Option ℕ) → IsValidScenario scenario → FindsAfter scenario report first line
+    → FindsAfter scenario report first other → line ≡ other
 found_once scenario report None line other v a b =
     let same : a.journals ≡ b.journals = journals_once scenario a.journals b.journals v a.fit b.fit (sym a.text_is ∙ b.text_is) in
     out_of_order_once scenario b.journals line other (subst (λ js. IsOutOfOrder scenario js line) same a.out_of_order) b.out_of_order
@@ -149,11 +149,11 @@ pub finds_once : (scenario : Scenario) (report : List ℕ) (line other : Option 
 finds_once scenario report line other v a b = found_once scenario report (audited scenario report) line other v a b
 
 found_exists : (scenario : Scenario) (report : List ℕ) (first : Option ℕ) → audited scenario report ≡ first
-    → (line : Option ℕ) × FindsBehind scenario report first line
+    → (line : Option ℕ) × FindsAfter scenario report first line
 found_exists scenario report None is =
-    let told = report_read scenario report is in
-    let line = out_of_order_exists scenario told.0 told.1 in
-    (line.0, record { journals = told.0; fit = told.1; text_is = told.2; out_of_order = line.1 })
+    let reported = report_read scenario report is in
+    let line = out_of_order_exists scenario reported.0 reported.1 in
+    (line.0, record { journals = reported.0; fit = reported.1; text_is = reported.2; out_of_order = line.1 })
 found_exists scenario report (Some number) is = (Some number, refl)
 
 pub finds_exists : (scenario : Scenario) (report : List ℕ) → (line : Option ℕ) × Finds scenario report line

@@ -21,15 +21,15 @@ use Rattle.audited_runs.proofs.Shares.{AreCounted, waits_for}
 use Rattle.order_defs.specs.Taking.{IsAllTaken, IsThrough, Leads, Taking, opening_taking}
 use Rattle.order_laws.proofs.Own.{timely_step}
 
--- ---- what a part's journal has more
+-- ---- what a part's journal gains
 
--- each journal is that of the part, and behind it what is left
+-- each journal is that of the part, followed by the events left
 abbrev Joined : List RunningPart → List (List Event) → List (List Event) → Type 0
 Joined [] [] [] = Unit {0}
 Joined (seat ∷ seats) (left ∷ lefts) (journal ∷ journals) = (seat.run.journal ++ left ≡ journal) × Joined seats lefts journals
 Joined seats lefts journals = ⊥
 
--- nothing is left of each part
+-- no part has an event left
 abbrev nothing_of : List RunningPart → List (List Event)
 nothing_of [] = []
 nothing_of (seat ∷ seats) = [] ∷ nothing_of seats
@@ -43,7 +43,7 @@ nothing_left [] k = refl
 nothing_left (seat ∷ seats) zero = refl
 nothing_left (seat ∷ seats) (suc k) = nothing_left seats k
 
--- one event more in front of what is left
+-- one more event before the events left
 record IsJoinedBefore (seats : List RunningPart) (k : ℕ) (e : Event) (lefts journals : List (List Event)) : Type 0 where
   whole : List (List Event)
   rest : List Event
@@ -74,7 +74,7 @@ joined_before (x ∷ seats) (suc k) seat new e (left ∷ lefts) (journal ∷ jou
 
 -- ---- a run
 
--- what is left of the journals can be taken in an order
+-- the rest of the journals can be taken in an order
 record IsTakenFrom (s end : Simulation) : Type 0 where
   left : List (List Event)
   order : List ℕ
@@ -118,10 +118,10 @@ taken_before s end order c g h =
       threads = h.threads;
     }
 
-at_place : {X : Type 0} (P : X → Type 0) (xs : List X) (i : ℕ) (x : X) → AllByRecursion P xs → slice_get xs i ≡ Some x → P x
-at_place P [] i x all h = none_is_some h
-at_place P (y ∷ xs) zero x all h = subst P (same_inside h) all.0
-at_place P (y ∷ xs) (suc i) x all h = at_place P xs i x all.1 h
+at_position : {X : Type 0} (P : X → Type 0) (xs : List X) (i : ℕ) (x : X) → AllByRecursion P xs → slice_get xs i ≡ Some x → P x
+at_position P [] i x all h = none_is_some h
+at_position P (y ∷ xs) zero x all h = subst P (same_inside h) all.0
+at_position P (y ∷ xs) (suc i) x all h = at_position P xs i x all.1 h
 
 record_same : (s end : Simulation) (order : Order) → IsTakenFrom (record s { order = order }) end → IsTakenFrom s end
 record_same s end order h =
@@ -129,13 +129,13 @@ record_same s end order h =
 
 choice_taken : (s end : Simulation) (choices : List Choice) → AllByRecursion (IsGood s.parts s.threads) choices → IsTakenFrom (taken s choices) end → IsTakenFrom s end
 unfolding taken
-choice_taken s end choices good h = by_choice (slice_get choices (picked s.order (map actor_of choices)).place) refl h
+choice_taken s end choices good h = by_choice (slice_get choices (picked s.order (map actor_of choices)).index) refl h
   where
-    by_choice : (o : Option Choice) → slice_get choices (picked s.order (map actor_of choices)).place ≡ o
+    by_choice : (o : Option Choice) → slice_get choices (picked s.order (map actor_of choices)).index ≡ o
         → IsTakenFrom (taken_by s (picked s.order (map actor_of choices)).order o) end → IsTakenFrom s end
     by_choice None e k = record_same s end (picked s.order (map actor_of choices)).order k
     by_choice (Some c) e k =
-        let g : IsGood s.parts s.threads c = at_place (IsGood s.parts s.threads) choices (picked s.order (map actor_of choices)).place c good e in
+        let g : IsGood s.parts s.threads c = at_position (IsGood s.parts s.threads) choices (picked s.order (map actor_of choices)).index c good e in
         taken_before s end (picked s.order (map actor_of choices)).order c g
         (subst (λ q. IsTakenFrom (stepped_by s (picked s.order (map actor_of choices)).order c q) end) g.at k)
 

@@ -10,27 +10,27 @@ use Rattle.nook_data.proofs.Options.{none_is_some, same_inside}
 use Rattle.desk_like.specs.Stamps.{stamp_at}
 use Rattle.order_defs.specs.OneClock.{AreOneRun, AreStamped, Follow, journal_on}
 use Rattle.order_laws.specs.Cases.{calls_of, crossed_journals, crossed_threads, ring_journals, ring_threads, to_and_fro, woven_journals}
-use Rattle.order_laws.proofs.Stamps.{answered_later, later_place, place_within, stamps_rise}
+use Rattle.order_laws.proofs.Stamps.{answered_later, later_position, position_within, stamps_rise}
 
--- ---- where a thread's call stands
+-- ---- the number of a thread's call
 
-is_second : (o : Op) (a : Answer) (first next thread call place : ℕ) → (first ≡ thread → ⊥) → IsAt (calls_of o a first next) place (IsInvoke call thread o) → place ≡ 2
+is_second : (o : Op) (a : Answer) (first next thread call number : ℕ) → (first ≡ thread → ⊥) → IsAt (calls_of o a first next) number (IsInvoke call thread o) → number ≡ 2
 is_second o a first next thread call zero apart at = none_is_some at.there
 is_second o a first next thread call (suc zero) apart at = absurd (apart (subst (IsInvoke call thread o) (sym (same_inside at.there)) at.is).1)
 is_second o a first next thread call (suc (suc zero)) apart at = refl
 is_second o a first next thread call (suc (suc (suc k))) apart at = none_is_some at.there
 
-is_first : (o : Op) (a : Answer) (first next thread call place : ℕ) → (next ≡ thread → ⊥) → IsAt (calls_of o a first next) place (IsInvoke call thread o) → place ≡ 1
+is_first : (o : Op) (a : Answer) (first next thread call number : ℕ) → (next ≡ thread → ⊥) → IsAt (calls_of o a first next) number (IsInvoke call thread o) → number ≡ 1
 is_first o a first next thread call zero apart at = none_is_some at.there
 is_first o a first next thread call (suc zero) apart at = refl
 is_first o a first next thread call (suc (suc zero)) apart at = absurd (apart (subst (IsInvoke call thread o) (sym (same_inside at.there)) at.is).1)
 is_first o a first next thread call (suc (suc (suc k))) apart at = none_is_some at.there
 
--- a thread that goes from one part to another: its call on the first stands before that on the second
+-- a thread that goes from one part to another: its call on the first has a lower stamp than that on the second
 goes_over : (journals : List (List Event)) (stamps : List (List ℕ)) (stamped : AreStamped journals stamps) (thread p q a b : ℕ) (o : Op) (receipts : List Receipt)
     → Follow journals stamps thread 0 ((p, o) ∷ (q, o) ∷ []) receipts
-    → ((call place : ℕ) → IsAt (journal_on journals p) place (IsInvoke call thread o) → place ≡ a)
-    → ((call place : ℕ) → IsAt (journal_on journals q) place (IsInvoke call thread o) → place ≡ b) → stamp_at stamps p a < stamp_at stamps q b
+    → ((call number : ℕ) → IsAt (journal_on journals p) number (IsInvoke call thread o) → number ≡ a)
+    → ((call number : ℕ) → IsAt (journal_on journals q) number (IsInvoke call thread o) → number ≡ b) → stamp_at stamps p a < stamp_at stamps q b
 goes_over journals stamps stamped thread p q a b o [] f first next = absurd f
 goes_over journals stamps stamped thread p q a b o (r ∷ []) f first next = absurd f.2
 goes_over journals stamps stamped thread p q a b o (r ∷ s ∷ t ∷ more) f first next = absurd f.2.2
@@ -49,10 +49,10 @@ pub crossed_none : (o : Op) (a : Answer) (name : List ℕ) → AreOneRun (crosse
 crossed_none o a name h =
     let over : stamp_at h.stamps 0 2 < stamp_at h.stamps 1 1 =
     goes_over (crossed_journals o a) h.stamps h.stamped 0 0 1 2 1 o h.in_order.0.receipts h.in_order.0.follow
-    (λ call place at. is_second o a 1 0 0 call place (λ e. omega arith) at) (λ call place at. is_first o a 0 1 0 call place (λ e. omega arith) at) in
+    (λ call number at. is_second o a 1 0 0 call number (λ e. omega arith) at) (λ call number at. is_first o a 0 1 0 call number (λ e. omega arith) at) in
     let back : stamp_at h.stamps 1 2 < stamp_at h.stamps 0 1 =
     goes_over (crossed_journals o a) h.stamps h.stamped 1 1 0 2 1 o h.in_order.1.0.receipts h.in_order.1.0.follow
-    (λ call place at. is_second o a 0 1 1 call place (λ e. omega arith) at) (λ call place at. is_first o a 1 0 1 call place (λ e. omega arith) at) in
+    (λ call number at. is_second o a 0 1 1 call number (λ e. omega arith) at) (λ call number at. is_first o a 1 0 1 call number (λ e. omega arith) at) in
     let here : stamp_at h.stamps 0 1 < stamp_at h.stamps 0 2 = calls_rise (crossed_journals o a) h.stamps h.stamped 0 (omega arith) in
     let there : stamp_at h.stamps 1 1 < stamp_at h.stamps 1 2 = calls_rise (crossed_journals o a) h.stamps h.stamped 1 (omega arith) in
     round _ _ _ _ over back here there
@@ -64,13 +64,13 @@ pub ring_none : (o : Op) (a : Answer) (name : List ℕ) → AreOneRun (ring_thre
 ring_none o a name h =
     let first : stamp_at h.stamps 0 2 < stamp_at h.stamps 1 1 =
     goes_over (ring_journals o a) h.stamps h.stamped 0 0 1 2 1 o h.in_order.0.receipts h.in_order.0.follow
-    (λ call place at. is_second o a 2 0 0 call place (λ e. omega arith) at) (λ call place at. is_first o a 0 1 0 call place (λ e. omega arith) at) in
+    (λ call number at. is_second o a 2 0 0 call number (λ e. omega arith) at) (λ call number at. is_first o a 0 1 0 call number (λ e. omega arith) at) in
     let second : stamp_at h.stamps 1 2 < stamp_at h.stamps 2 1 =
     goes_over (ring_journals o a) h.stamps h.stamped 1 1 2 2 1 o h.in_order.1.0.receipts h.in_order.1.0.follow
-    (λ call place at. is_second o a 0 1 1 call place (λ e. omega arith) at) (λ call place at. is_first o a 1 2 1 call place (λ e. omega arith) at) in
+    (λ call number at. is_second o a 0 1 1 call number (λ e. omega arith) at) (λ call number at. is_first o a 1 2 1 call number (λ e. omega arith) at) in
     let third : stamp_at h.stamps 2 2 < stamp_at h.stamps 0 1 =
     goes_over (ring_journals o a) h.stamps h.stamped 2 2 0 2 1 o h.in_order.1.1.0.receipts h.in_order.1.1.0.follow
-    (λ call place at. is_second o a 1 2 2 call place (λ e. omega arith) at) (λ call place at. is_first o a 2 0 2 call place (λ e. omega arith) at) in
+    (λ call number at. is_second o a 1 2 2 call number (λ e. omega arith) at) (λ call number at. is_first o a 2 0 2 call number (λ e. omega arith) at) in
     round _ _ _ _ _ _ first second third (calls_rise (ring_journals o a) h.stamps h.stamped 0 (omega arith)) (calls_rise (ring_journals o a) h.stamps h.stamped 1 (omega arith))
     (calls_rise (ring_journals o a) h.stamps h.stamped 2 (omega arith))
   where
@@ -112,16 +112,16 @@ woven_one_run o a name = record {
       ordered = omega arith;
     }
 
--- the places of two calls of a part, by their order
-two_places : (p q : ℕ) → 0 < p → p < q → q ≤ 2 → (p ≡ 1) × (q ≡ 2)
-two_places p q low less high = (omega arith, omega arith)
+-- the numbers of two calls of a part, by their order
+two_numbers : (p q : ℕ) → 0 < p → p < q → q ≤ 2 → (p ≡ 1) × (q ≡ 2)
+two_numbers p q low less high = (omega arith, omega arith)
 
 module _ (o : Op) (a : Answer) (name : List ℕ) (h : AreOneRun (to_and_fro o name) (woven_journals o a)) where
-  invoked_within : (p call place : ℕ) → journal_on (woven_journals o a) p ≡ calls_of o a 0 0 → IsAt (journal_on (woven_journals o a) p) place (IsInvoke call 0 o)
-      → (0 < place) × (place ≤ 2)
-  invoked_within p call place is at =
-      let within = place_within (journal_on (woven_journals o a) p) place at.event at.there in
-      (within.0, subst (λ (j : List Event). place ≤ length j) is within.1)
+  invoked_within : (p call number : ℕ) → journal_on (woven_journals o a) p ≡ calls_of o a 0 0 → IsAt (journal_on (woven_journals o a) p) number (IsInvoke call 0 o)
+      → (0 < number) × (number ≤ 2)
+  invoked_within p call number is at =
+      let within = position_within (journal_on (woven_journals o a) p) number at.event at.there in
+      (within.0, subst (λ (j : List Event). number ≤ length j) is within.1)
 
   woven : (receipts : List Receipt) → Follow (woven_journals o a) h.stamps 0 0 ((0, o) ∷ (1, o) ∷ (0, o) ∷ (1, o) ∷ []) receipts
       → (stamp_at h.stamps 0 1 < stamp_at h.stamps 1 1) × (stamp_at h.stamps 1 1 < stamp_at h.stamps 0 2) × (stamp_at h.stamps 0 2 < stamp_at h.stamps 1 2)
@@ -141,14 +141,14 @@ module _ (o : Op) (a : Answer) (name : List ℕ) (h : AreOneRun (to_and_fro o na
       let s_in = invoked_within 1 s.call s.at_invoke refl f.2.0.invoked in
       let t_in = invoked_within 0 t.call t.at_invoke refl f.2.2.0.invoked in
       let u_in = invoked_within 1 u.call u.at_invoke refl f.2.2.2.0.invoked in
-      let here = two_places r.at_invoke t.at_invoke r_in.0 (later_place (woven_journals o a) h.stamps h.stamped 0 r.at_invoke t.at_invoke r_in.1 (omega arith)) t_in.1 in
-      let there = two_places s.at_invoke u.at_invoke s_in.0 (later_place (woven_journals o a) h.stamps h.stamped 1 s.at_invoke u.at_invoke s_in.1 (omega arith)) u_in.1 in
-      by_place r.at_invoke s.at_invoke t.at_invoke u.at_invoke here.0 there.0 here.1 there.1 (omega arith) (omega arith) (omega arith)
+      let here = two_numbers r.at_invoke t.at_invoke r_in.0 (later_position (woven_journals o a) h.stamps h.stamped 0 r.at_invoke t.at_invoke r_in.1 (omega arith)) t_in.1 in
+      let there = two_numbers s.at_invoke u.at_invoke s_in.0 (later_position (woven_journals o a) h.stamps h.stamped 1 s.at_invoke u.at_invoke s_in.1 (omega arith)) u_in.1 in
+      by_position r.at_invoke s.at_invoke t.at_invoke u.at_invoke here.0 there.0 here.1 there.1 (omega arith) (omega arith) (omega arith)
     where
-      by_place : (p q x y : ℕ) → p ≡ 1 → q ≡ 1 → x ≡ 2 → y ≡ 2 → stamp_at h.stamps 0 p < stamp_at h.stamps 1 q → stamp_at h.stamps 1 q < stamp_at h.stamps 0 x
+      by_position : (p q x y : ℕ) → p ≡ 1 → q ≡ 1 → x ≡ 2 → y ≡ 2 → stamp_at h.stamps 0 p < stamp_at h.stamps 1 q → stamp_at h.stamps 1 q < stamp_at h.stamps 0 x
           → stamp_at h.stamps 0 x < stamp_at h.stamps 1 y
           → (stamp_at h.stamps 0 1 < stamp_at h.stamps 1 1) × (stamp_at h.stamps 1 1 < stamp_at h.stamps 0 2) × (stamp_at h.stamps 0 2 < stamp_at h.stamps 1 2)
-      by_place p q x y p_is q_is x_is y_is k l m = (
+      by_position p q x y p_is q_is x_is y_is k l m = (
         subst (λ (c : ℕ). stamp_at h.stamps 0 c < stamp_at h.stamps 1 1) p_is (subst (λ (c : ℕ). stamp_at h.stamps 0 p < stamp_at h.stamps 1 c) q_is k),
         subst (λ (c : ℕ). stamp_at h.stamps 1 c < stamp_at h.stamps 0 2) q_is (subst (λ (c : ℕ). stamp_at h.stamps 1 q < stamp_at h.stamps 0 c) x_is l),
         subst (λ (c : ℕ). stamp_at h.stamps 0 c < stamp_at h.stamps 1 2) x_is (subst (λ (c : ℕ). stamp_at h.stamps 0 x < stamp_at h.stamps 1 c) y_is m),

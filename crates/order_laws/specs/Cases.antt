@@ -20,7 +20,7 @@ calls_of o a first next = event.Invoke 1 first o (Some a) ∷ event.Invoke 2 nex
 abbrev pub crossed_threads : Op → List ℕ → List ThreadSpec
 crossed_threads o name = visits o name 0 1 ∷ visits o name 1 0 ∷ []
 
--- on each part the thread that goes there second was there first
+-- on each part the thread that visits it second was there first
 abbrev pub crossed_journals : Op → Answer → List (List Event)
 crossed_journals o a = calls_of o a 1 0 ∷ calls_of o a 0 1 ∷ []
 
@@ -30,7 +30,7 @@ crossed_journals o a = calls_of o a 1 0 ∷ calls_of o a 0 1 ∷ []
 abbrev pub ring_threads : Op → List ℕ → List ThreadSpec
 ring_threads o name = visits o name 0 1 ∷ visits o name 1 2 ∷ visits o name 2 0 ∷ []
 
--- on each part the thread that comes from the part before was there first
+-- on each part the thread that comes from the previous part was there first
 abbrev pub ring_journals : Op → Answer → List (List Event)
 ring_journals o a = calls_of o a 2 0 ∷ calls_of o a 0 1 ∷ calls_of o a 1 2 ∷ []
 

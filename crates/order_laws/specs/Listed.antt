@@ -1,4 +1,4 @@
--- Runs that a listed schedule gives.
+-- Runs under a listed schedule.
 use Rattle.std.specs.Prelude.{◌≡◌, ℕ, List}
 use Rattle.nook_data.specs.declared.calls.Answer.{Answer}
 use Rattle.nook_data.specs.declared.scenario.Scenario.{Scenario}

@@ -1,4 +1,4 @@
--- The choices of a simulation rise by their actors.
+-- The choices of a simulation are in rising order of their actors.
 use Rattle.std.proofs.Common.{◌≡◌, ℕ, suc, ◌+◌, ◌≤◌, All, Option, Some, None, List, [], ◌∷◌, length, slice_get, sym}
 use Rattle.std.proofs.Common.{subst, arith}
 use Rattle.std.proofs.lemmas.List.Elements.{All-cons, All-nil}
@@ -10,7 +10,7 @@ use Rattle.run_defs.proofs.ChoicesInOrder.{choices_in_order, part_choices, threa
 use Rattle.run_defs.specs.Simulation.{Choice, RunningPart, Simulation, ThreadState, Waiting, arrival, going_on}
 use Rattle.run_defs.specs.Simulation.{invocation}
 
--- the actors rise, from a number on
+-- the actors rise, beginning at this number or above
 abbrev pub RiseFrom : ℕ → List Choice → Type 0
 RiseFrom n [] = Unit {0}
 RiseFrom n (c ∷ choices) = (n ≤ c.actor) × RiseFrom (suc c.actor) choices
@@ -58,7 +58,7 @@ run_rises s =
     threads_rise 0 (length s.threads) s.parts s.threads (part_choices (length s.threads) 0 s.parts) (omega arith)
     (parts_rise (length s.threads) 0 s.parts)
 
--- what may be taken rises by its actors, whatever the present
+-- the choices rise by their actors, whatever the present is
 pub choices_rise : (now : Present) → RiseFrom 0 (choices_in now)
 choices_rise now = subst (RiseFrom 0) (sym (choices_in_order (bare_run now))) (run_rises (bare_run now))
 

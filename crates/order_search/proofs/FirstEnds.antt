@@ -10,7 +10,7 @@ use Rattle.explore_laws.specs.Held.{DoRise, HasHeldOutcome, Held, choices_in}
 use Rattle.explore_laws.specs.Present.{outcome_in}
 use Rattle.order_search.proofs.KeptEnds.{end_outcome, held_outcome}
 use Rattle.order_search.proofs.Rising.{IsBefore, rise_at, rise_front, rise_push}
-use Rattle.order_search.specs.Ends.{AreFirstEnds, HasOutcome, StandForEnds, TakesEnds, end_from}
+use Rattle.order_search.specs.Ends.{AreFirstEnds, HasOutcome, CoverEnds, TakesEnds, end_from}
 use Rattle.order_search.specs.Ways.{ComeBefore}
 use Rattle.order_search.specs.declared.ends.FirstEnd.{FirstEnd}
 
@@ -50,7 +50,7 @@ module _ (seen firsts : List Held) (h : Held) (b : ComeBefore seen h) (e : AreFi
   }
 
   module _ (ended : choices_in h.now ≡ []) (new : HasHeldOutcome firsts (outcome_in h.now) → ⊥) where
-    -- one of the firsts and it have different outcomes
+    -- its outcome differs from that of each of the firsts
     none_alike : (first : Held) → Contains firsts first → outcome_in first.now ≡ outcome_in h.now → ⊥
     none_alike first c same = new (record { first = first; listed = c; same = same })
 
@@ -65,7 +65,7 @@ module _ (seen firsts : List Held) (h : Held) (b : ComeBefore seen h) (e : AreFi
     itself : HasHeldOutcome (firsts ++ h ∷ []) (outcome_in h.now)
     itself = record { first = h; listed = Contains-push firsts h; same = refl }
 
-    -- what was seen before and has ended has an outcome of one of the firsts, and so not that of this one
+    -- whatever was seen before and has ended has an outcome of one of the firsts, and so not this one's
     none_seen : (x : Held) → Contains seen x → choices_in x.now ≡ [] → outcome_in x.now ≡ outcome_in h.now → ⊥
     none_seen x c x_ended same =
         let has : HasHeldOutcome firsts (outcome_in x.now) = e.each x c x_ended in
@@ -101,7 +101,7 @@ module _ (seen firsts : List Held) (h : Held) (b : ComeBefore seen h) (e : AreFi
 
 -- ---- one state
 
--- it goes on, or there is a first end of its outcome
+-- it continues, or there is already a first end with its outcome
 pub ends_same : (h : Held) (ends : List FirstEnd) → (choices_in h.now ≡ [] → HasOutcome ends (outcome_in h.now))
     → TakesEnds (h ∷ []) ends ends
 ends_same h ends has = record {
@@ -128,10 +128,10 @@ ends_more h ends ended new = record {
 
 -- ---- many states
 
--- another list of the same states was seen
-seen_as : (seen others : List Held) (ends : List FirstEnd) → seen ≡ others → StandForEnds seen ends
-    → StandForEnds others ends
-seen_as seen others ends e s = subst (λ (xs : List Held). StandForEnds xs ends) e s
+-- the same for an equal list of states
+seen_as : (seen others : List Held) (ends : List FirstEnd) → seen ≡ others → CoverEnds seen ends
+    → CoverEnds others ends
+seen_as seen others ends e s = subst (λ (xs : List Held). CoverEnds xs ends) e s
 
 pub ends_none : (ends : List FirstEnd) → TakesEnds [] ends ends
 ends_none ends = record {

@@ -1,4 +1,4 @@
--- What is kept of ends.
+-- What is stored of ends.
 use Rattle.std.proofs.Common.{◌≡◌, ℕ, All, Contains, List, [], ◌∷◌, Some, Bool, true, false, Decides, length, map}
 use Rattle.std.proofs.Common.{slice_get, refl, sym, ap, ◌∙◌}
 use Rattle.std.proofs.lemmas.List.Elements.{All-contains}
@@ -9,7 +9,7 @@ use Rattle.order_search.specs.Ends.{HasOutcome, end_from}
 use Rattle.order_search.specs.Found.{row_from, row_of_end}
 use Rattle.order_search.specs.declared.ends.FirstEnd.{FirstEnd}
 use Rattle.order_search.specs.declared.rows.OutcomeRow.{OutcomeRow}
-use Rattle.part_laws.proofs.Places.{from_map, get_map}
+use Rattle.part_laws.proofs.Indices.{from_map, get_map}
 
 pub get_contains : {X : Type 0} (xs : List X) (k : ℕ) (x : X) → slice_get xs k ≡ Some x → Contains xs x
 get_contains xs k x h = (k, slice_get_within xs k x h, get_or_from_slice_get xs k x x h)
@@ -37,7 +37,7 @@ other_by outcome e r differ is = record { differs = λ same. false_not_true (sym
 pub none_has : (ends : List FirstEnd) (outcome : Outcome) → All (HasOther outcome) ends → HasOutcome ends outcome → ⊥
 none_has ends outcome all has = (All-contains (HasOther outcome) ends has.by all has.listed).differs has.same
 
--- ---- the states that they were kept of
+-- ---- the states whose ends they are
 
 -- one of the states has the outcome of an end
 pub held_outcome : (firsts : List Held) (outcome : Outcome) → HasOutcome (map end_from firsts) outcome

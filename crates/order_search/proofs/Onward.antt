@@ -7,20 +7,20 @@ use Rattle.std.proofs.lemmas.List.Elements.{All-append, All-contains, All-cons, 
 use Rattle.explore_defs.specs.Orders.{IsWithin, comes_before}
 use Rattle.explore_defs.specs.declared.TheConstants.{MOST_STATES}
 use Rattle.explore_laws.specs.Held.{AreFirstHeld, AreHeldLevels, AreJoined, DoRise, Held, IsFilled, IsWayFrom}
-use Rattle.explore_laws.specs.Held.{StandsAmong}
+use Rattle.explore_laws.specs.Held.{IsCoveredAmong}
 use Rattle.explore_laws.specs.Held.{all_levels, held_first, last_held}
 use Rattle.explore_laws.specs.Present.{Present, present}
 use Rattle.nook_data.specs.Types.{Scenario}
 use Rattle.order_search.proofs.KeptEnds.{same_rows}
 use Rattle.order_search.proofs.Rising.{AreLong, after_shorter, none_contained, past_last, rise_append, rise_rest}
 use Rattle.order_search.proofs.Rising.{some_last, way_contained, ways_contain, ways_long, ways_rise, within_last}
-use Rattle.order_search.specs.Ends.{AreFirstEnds, StandForEnds, TakesEnds}
+use Rattle.order_search.specs.Ends.{AreFirstEnds, CoverEnds, TakesEnds}
 use Rattle.order_search.specs.Found.{AreLevelsTo, GoesOn, IsAt, IsFound, row_of_end}
 use Rattle.order_search.specs.Moments.{held_at_first}
 use Rattle.order_search.specs.Ways.{AreAfter, ComeBefore, IsSettled, IsSifted, Made, TakesWays, all_ways}
 use Rattle.order_search.specs.declared.ends.FirstEnd.{FirstEnd}
 use Rattle.order_search.specs.declared.rows.Explored.{Explored}
-use Rattle.part_laws.proofs.Places.{split}
+use Rattle.part_laws.proofs.Indices.{split}
 use Rattle.run_defs.specs.Simulation.{begins}
 
 true_not_false : true ≡ false → ⊥
@@ -35,7 +35,7 @@ unfolding AreLevelsTo
 levels_more cut [] held last next a j = (subst (λ (x : List Held). AreJoined cut x next) (sym a) j, refl)
 levels_more cut (level ∷ levels) held last next a j = (a.0, levels_more cut levels level last next a.1 j)
 
--- with a cut less is asked
+-- a limit requires less
 joined_cut : (cut : Option (List ℕ)) (held next : List Held) → AreJoined None held next → AreJoined cut held next
 joined_cut cut held next j = record { ways = j.ways; each = λ h w within. j.each h w tt }
 
@@ -58,7 +58,7 @@ all_more [] next = append-nil next
 all_more (level ∷ levels) next =
     ap (λ xs. level ++ xs) (all_more levels next) ∙ sym (append_assoc level (all_levels levels) next)
 
--- ---- a level that is made of all ways
+-- ---- a level that is made of all continuations
 
 module _ (was : Bool) (all level : List Held) (m : Made) (s : IsSifted was all (all_ways level) m) where
   joined_ways : All (IsWayFrom level) m.level
@@ -70,8 +70,8 @@ module _ (was : Bool) (all level : List Held) (m : Made) (s : IsSifted was all (
     each = λ h w within. by_settled h (s.each h (ways_contain level h w));
   }
     where
-      by_settled : (h : Held) → IsSettled all m h → StandsAmong m.level h
-      by_settled h (inl stands) = stands
+      by_settled : (h : Held) → IsSettled all m h → IsCoveredAmong m.level h
+      by_settled h (inl among) = among
       by_settled h (inr past) = absurd (true_not_false (sym past.is_cut ∙ whole))
 
   joined_to : (last : List ℕ) → last_held (all ++ m.level) ≡ Some last → AreJoined (Some last) level m.level
@@ -80,14 +80,14 @@ module _ (was : Bool) (all level : List Held) (m : Made) (s : IsSifted was all (
     each = λ h w within. by_settled h within (s.each h (ways_contain level h w));
   }
     where
-      by_settled : (h : Held) → comes_before last h.picks ≡ false → IsSettled all m h → StandsAmong m.level h
-      by_settled h within (inl stands) = stands
+      by_settled : (h : Held) → comes_before last h.picks ≡ false → IsSettled all m h → IsCoveredAmong m.level h
+      by_settled h within (inl among) = among
       by_settled h within (inr past) =
           absurd (true_not_false (sym (past_last (all ++ m.level) last h e past.past) ∙ within))
 
 -- ---- from one level to the next
 
--- at a cut as many are held as may be, up to the last of them
+-- at the limit as many states are stored as allowed, up to the last picks
 abbrev IsFull : Option (List ℕ) → List Held → Type 0
 IsFull cut all = IfSome cut (λ last. (length all ≡ MOST_STATES) × (last_held all ≡ Some last))
 
@@ -241,7 +241,7 @@ none_ended = record {
   rising = tt;
 }
 
-none_kept : StandForEnds [] []
+none_kept : CoverEnds [] []
 none_kept = record { firsts = []; same = refl; are = none_ended }
 
 pub at_first : (now : Present)

@@ -2,12 +2,12 @@
 use Rattle.std.proofs.Common.{◌≡◌, ℕ, ◌+◌, ◌<◌, ◌==◌, nat_lt, true, false, List, [], ◌∷◌}
 use Rattle.std.proofs.Common.{◌++◌, length, refl, arith, eq-eqb, le-ltb, lt-ltb, length-append}
 use Rattle.explore_defs.specs.Orders.{comes_before, is_lower}
-use Rattle.part_laws.proofs.Places.{split}
+use Rattle.part_laws.proofs.Indices.{split}
 
 pub before_shorter : (a b : List ℕ) → length a < length b → comes_before a b ≡ true
 before_shorter a b h = rw (lt-ltb (length a) (length b) h) refl
 
--- ---- of one length
+-- ---- of the same length
 
 lower_before : (a b : List ℕ) → length a ≡ length b → is_lower a b ≡ true → comes_before a b ≡ true
 lower_before a b l h =
@@ -34,7 +34,7 @@ same_longer a b x y l =
     let la : length (a ++ x ∷ []) ≡ length a + 1 = length-append a (x ∷ []) in
     let lb : length (b ++ y ∷ []) ≡ length b + 1 = length-append b (y ∷ []) in omega arith
 
--- of two ways on from one state that of the smaller actor comes first
+-- of two continuations of a state, the one with the smaller actor comes first
 pub before_actor : (p : List ℕ) (x y : ℕ) → x < y → comes_before (p ++ x ∷ []) (p ++ y ∷ []) ≡ true
 before_actor p x y h =
     lower_before (p ++ x ∷ []) (p ++ y ∷ []) (same_longer p p x y refl) (lower_actor p x y h)
@@ -54,7 +54,7 @@ lower_longer (p ∷ a) (q ∷ b) x y l h =
     falsehood : false ≡ true → ⊥
     falsehood e = cc
 
--- of ways on from two states those from the first one come first
+-- of continuations of two states, those of the first state come first
 pub before_longer : (a b : List ℕ) (x y : ℕ) → length a ≡ length b → comes_before a b ≡ true
     → comes_before (a ++ x ∷ []) (b ++ y ∷ []) ≡ true
 before_longer a b x y l h =

@@ -1,4 +1,4 @@
--- Lists of states whose picks rise, and the ways on from them.
+-- Lists of states whose picks rise, and their continuations.
 use Rattle.std.proofs.Common.{◌≡◌, ◌⊎◌, inl, inr, ℕ, zero, suc, ◌+◌, ◌<◌, ◌≤◌, false, true, All, Contains, Some}
 use Rattle.std.proofs.Common.{List, [], ◌∷◌, ◌++◌, get_or, length, map, refl, sym, ap, ◌∙◌, subst, arith}
 use Rattle.std.proofs.Common.{length-append}
@@ -60,7 +60,7 @@ unfolding DoRise
 rise_rest [] ys r = r
 rise_rest (x ∷ xs) ys r = rise_rest xs ys r.1
 
--- what stands before one of them comes before it
+-- what is listed before one of them comes before it
 pub rise_at : (xs ys : List Held) (y : Held) → DoRise (xs ++ y ∷ ys) → ComeBefore xs y
 unfolding DoRise
 rise_at [] ys y r = All-nil (λ (x : Held). IsBefore x y)
@@ -86,7 +86,7 @@ rise_push xs y r b =
 
 -- ---- the last one
 
--- where the last picks are
+-- the state with the last picks
 record HasLast (xs : List Held) (last : List ℕ) : Type 0 where
   at : Held
   is_held : Contains xs at
@@ -106,7 +106,7 @@ some_last [] l = absurd (omega arith)
 some_last (x ∷ []) l = (x.picks, refl)
 some_last (x ∷ y ∷ xs) l = some_last (y ∷ xs) (omega arith)
 
--- what comes after all of them is past the last
+-- what comes after all of them is past the last one
 pub past_last : (xs : List Held) (last : List ℕ) (h : Held) → last_held xs ≡ Some last → ComeBefore xs h
     → comes_before last h.picks ≡ true
 past_last xs last h e b =
@@ -114,7 +114,7 @@ past_last xs last h e b =
     ap (λ picks. comes_before picks h.picks) (sym r.picks)
     ∙ All-contains (λ (x : Held). IsBefore x h) xs r.at b r.is_held
 
--- none of them is past the last
+-- none of them is past the last one
 pub within_last : (xs : List Held) (last : List ℕ) (h : Held) → DoRise xs → last_held xs ≡ Some last → Contains xs h
     → comes_before last h.picks ≡ false
 unfolding DoRise last_held
@@ -132,7 +132,7 @@ within_last (x ∷ y ∷ xs) last h r e c = elim (contains_cases x h (y ∷ xs) 
   | inr later ↦ within_last (y ∷ xs) last h r.1 e later
 ]
 
--- ---- the ways on
+-- ---- the continuations
 
 ways_rise_from : (n : ℕ) (h : Held) (choices : List Choice) → RiseFrom n choices → DoRise (map (held_after h) choices)
 unfolding DoRise
@@ -148,7 +148,7 @@ ways_rise_from n h (c ∷ choices) r = (
     less : (a b : ℕ) → suc a ≤ b → a < b
     less a b l = omega arith
 
--- states of that many steps
+-- states of this many steps
 abbrev pub AreLong : ℕ → List Held → Type 0
 AreLong n level = All (λ (h : Held). length h.picks ≡ n) level
 
@@ -198,7 +198,7 @@ after_shorter n helds ways s a =
     less : (x y : ℕ) → x ≤ n → y ≡ n + 1 → x < y
     less x y l e = omega arith
 
--- ---- members of the ways on
+-- ---- members of the continuations
 
 pub way_contained : (level : List Held) (w : Held) → Contains (all_ways level) w → IsWayFrom level w
 way_contained [] w c = absurd (none_contained w c)

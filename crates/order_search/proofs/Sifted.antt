@@ -1,4 +1,4 @@
--- A level is made of the ways on, one after another.
+-- A level is made of the continuations, one after another.
 use Rattle.std.proofs.Common.{◌≡◌, inl, inr, ℕ, ◌+◌, ◌<◌, ◌≤◌, Bool, false, true, All, Contains, List, [], ◌∷◌}
 use Rattle.std.proofs.Common.{Some, ◌++◌, append_assoc, append-nil, length, map, slice_get, take, refl, sym, ap, ap₂}
 use Rattle.std.proofs.Common.{◌∙◌}
@@ -10,18 +10,18 @@ use Rattle.std.proofs.lemmas.List.Elements.{Contains-push, Contains-push_cases}
 use Rattle.std.proofs.lemmas.Option.{get_or_from_slice_get, slice_get_within}
 use Rattle.explore_defs.specs.declared.TheConstants.{MOST_STATES}
 use Rattle.explore_laws.proofs.Words.{before_asym, before_self}
-use Rattle.explore_laws.specs.Held.{DoRise, Held, StandsAmong, choices_in, held_after, ways_from}
+use Rattle.explore_laws.specs.Held.{DoRise, Held, IsCoveredAmong, choices_in, held_after, ways_from}
 use Rattle.explore_laws.specs.Present.{Present}
 use Rattle.order_search.proofs.Rising.{IsBefore, all_front, all_rest, rise_at, rise_front, rise_push}
 use Rattle.order_search.specs.Moments.{IsAfter, actors_in}
 use Rattle.order_search.specs.Ways.{AreAfter, ComeBefore, HasPresent, IsSettled, IsSifted, Made, TakesWays}
-use Rattle.part_laws.proofs.Places.{from_map, get_map}
+use Rattle.part_laws.proofs.Indices.{from_map, get_map}
 use Rattle.run_defs.specs.Simulation.{Choice, actor_of}
 
 true_not_false : true ≡ false → ⊥
 true_not_false e = cc
 
--- ---- one way
+-- ---- one continuation
 
 module _ (was : Bool) (all done : List Held) (m : Made) (h : Held) (s : IsSifted was all done m) where
   more_ways : All (Contains (done ++ h ∷ [])) m.level
@@ -32,7 +32,7 @@ module _ (was : Bool) (all done : List Held) (m : Made) (h : Held) (s : IsSifted
   level_before b = All-weaker (Contains done) (λ (x : Held). IsBefore x h)
       (λ x c. All-contains (λ (x : Held). IsBefore x h) done x b c) m.level s.ways
 
-  -- the level stays, and the way is settled
+  -- the level is unchanged, and the continuation is settled
   sifted_same : IsSettled all m h → IsSifted was all (done ++ h ∷ []) m
   sifted_same settled = record {
     ways = more_ways;
@@ -62,36 +62,36 @@ module _ (was : Bool) (all done : List Held) (m : Made) (h : Held) (s : IsSifted
     past = All-append (λ (x : Held). IsBefore x h) all m.level a (level_before b);
   }))
 
-  -- no cut so far
+  -- not yet truncated
   module _ (whole : m.is_cut ≡ false) where
     no_cut : {G : Type 0} → m.is_cut ≡ true → G
     no_cut cut = absurd (true_not_false (sym cut ∙ whole))
 
-    settled_whole : (x : Held) → IsSettled all m x → StandsAmong m.level x
-    settled_whole x (inl stands) = stands
+    settled_whole : (x : Held) → IsSettled all m x → IsCoveredAmong m.level x
+    settled_whole x (inl among) = among
     settled_whole x (inr past) = no_cut past.is_cut
 
     abbrev added : Made
     added = record { level = m.level ++ h ∷ []; states = m.states + 1; is_cut = m.is_cut }
 
-    stands_more : (x : Held) → StandsAmong m.level x → StandsAmong (m.level ++ h ∷ []) x
-    stands_more x stands = record {
-      by = stands.by;
-      is_held = Contains-append_left m.level (h ∷ []) stands.by stands.is_held;
-      alike = stands.alike;
-      early = stands.early;
+    covered_more : (x : Held) → IsCoveredAmong m.level x → IsCoveredAmong (m.level ++ h ∷ []) x
+    covered_more x among = record {
+      by = among.by;
+      is_held = Contains-append_left m.level (h ∷ []) among.by among.is_held;
+      alike = among.alike;
+      early = among.early;
     }
 
-    stands_itself : StandsAmong (m.level ++ h ∷ []) h
-    stands_itself = record { by = h; is_held = Contains-push m.level h; alike = refl; early = before_self h.picks }
+    holds_itself : IsCoveredAmong (m.level ++ h ∷ []) h
+    holds_itself = record { by = h; is_held = Contains-push m.level h; alike = refl; early = before_self h.picks }
 
     sifted_added : ComeBefore done h → m.states < MOST_STATES → IsSifted was all (done ++ h ∷ []) added
     sifted_added b less = record {
       ways = All-push (Contains (done ++ h ∷ [])) m.level h more_ways (Contains-push done h);
       rising = rise_push m.level h s.rising (level_before b);
       each = λ x c. elim (Contains-push_cases done h x c) [
-        | inl old ↦ inl (stands_more x (settled_whole x (s.each x old)))
-        | inr same ↦ inl (subst (StandsAmong (m.level ++ h ∷ [])) same stands_itself)
+        | inl old ↦ inl (covered_more x (settled_whole x (s.each x old)))
+        | inr same ↦ inl (subst (IsCoveredAmong (m.level ++ h ∷ [])) same holds_itself)
       ];
       count = counted (length (m.level ++ h ∷ [])) (length_push m.level h) s.count;
       few = omega arith;
@@ -120,7 +120,7 @@ module _ (was : Bool) (all done : List Held) (m : Made) (h : Held) (s : IsSifted
         filled : m.states ≤ MOST_STATES → m.states ≡ MOST_STATES
         filled few = omega arith
 
--- the premises of one way
+-- the premises of one continuation
 module _ (all done : List Held) (h : Held) where
   before_way : DoRise (done ++ h ∷ []) → ComeBefore done h
   before_way r = rise_at done [] h r
@@ -152,7 +152,7 @@ takes_cut m h whole many = record {
       (sifted_cut was all done m h s whole many) refl (before_all all done h a) (before_way all done h r);
 }
 
--- ---- many ways
+-- ---- many continuations
 
 pub takes_none : (m : Made) → TakesWays [] m m
 takes_none m = record {
@@ -168,12 +168,12 @@ takes_more xs ys a b c p q = record {
       (p.sifted was all done (rise_front (done ++ xs) ys rises) (all_front (ComeBefore all) xs ys t) s));
 }
 
--- after a cut ways are left out
+-- after the limit is reached, continuations are left out
 pub takes_all_past : (ways : List Held) (m : Made) → m.is_cut ≡ true → TakesWays ways m m
 takes_all_past [] m cut = takes_none m
 takes_all_past (h ∷ ways) m cut = takes_more (h ∷ []) ways m m m (takes_past m h cut) (takes_all_past ways m cut)
 
--- ---- the ways on from one state
+-- ---- the continuations of one state
 
 way_at : (h : Held) (choices : List Choice) (k : ℕ) (c : Choice) → slice_get choices k ≡ Some c
     → take (k + 1) (map (held_after h) choices) ≡ take k (map (held_after h) choices) ++ held_after h c ∷ []
@@ -183,7 +183,7 @@ way_at h choices k c at =
     take_more ways k (held_after h c) (slice_get_within ways k (held_after h c) here)
     ∙ ap (λ (x : Held). take k ways ++ x ∷ []) (get_or_from_slice_get ways k (held_after h c) (held_after h c) here)
 
--- the way by the choice with the next index
+-- the continuation by the choice with the next index
 pub takes_way : (h w : Held) (k actor : ℕ) (a b c : Made) → IsAfter h.now k w.now
     → slice_get (actors_in h.now) k ≡ Some actor
     → w.picks ≡ h.picks ++ actor ∷ [] → TakesWays (take k (ways_from h)) a b → TakesWays (w ∷ []) b c

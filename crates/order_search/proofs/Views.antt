@@ -1,4 +1,4 @@
--- What lists of states stand for.
+-- What lists of states represent.
 use Rattle.std.proofs.Common.{◌≡◌, ℕ, ◌+◌, ◌<◌, ◌==◌, All, List, [], ◌∷◌, ◌++◌}
 use Rattle.std.proofs.Common.{Some, Result, Ok, Err, OnOk, Bool, true, false, length, map, slice_get, take, sym}
 use Rattle.std.proofs.Common.{ap, ap₂, ◌∙◌, subst, arith, eqb-true}
@@ -20,10 +20,10 @@ use Rattle.order_search.specs.Found.{IsAt}
 use Rattle.order_search.specs.Ways.{HasPresent, Made, TakesWays, all_ways, made_as}
 use Rattle.order_search.specs.declared.ends.FirstEnd.{FirstEnd}
 use Rattle.order_search.specs.declared.states.HeldState.{HeldState}
-use Rattle.part_laws.proofs.Places.{get_map}
+use Rattle.part_laws.proofs.Indices.{get_map}
 use Rattle.run_defs.specs.Simulation.{actor_of}
 
--- one item more that has a property
+-- one more item with a property
 pub all_one_more : {X : Type 0} (P : X → Type 0) (xs : List X) (k : ℕ) (x : X) → slice_get xs k ≡ Some x
     → All P (take k xs) → P x
     → All P (take (k + 1) xs)
@@ -44,12 +44,12 @@ pub some_listed : (now : Present) (actors : List ℕ) (r : Bool) → actors ≡ 
 some_listed now actors r is test some none =
     false_not_true (sym some ∙ test ∙ ap (λ (xs : List ℕ). length xs == 0) (is ∙ ap (map actor_of) none))
 
--- what holds anyway holds after a success
+-- what always holds also holds after a success
 pub on_ok : {T E P : Type 0} (r : Result T E) → P → OnOk r P
 on_ok (Ok x) p = p
 on_ok (Err e) p = tt
 
--- an end by what is kept of it
+-- an end from what is stored of it
 abbrev pub end_of : List ℕ → MemberRow → Outcome → FirstEnd
 end_of picks numbers outcome = record { picks = picks; numbers = numbers; outcome = outcome }
 
@@ -62,7 +62,7 @@ module _ {M : Type 0} (now : M → Present) where
     alike = same;
   }
 
-  -- ---- one state more
+  -- ---- one more state
 
   abbrev view : HeldState M → Held
   view = held_as now
@@ -77,7 +77,7 @@ module _ {M : Type 0} (now : M → Present) where
       (sym (ap (map view) e ∙ map_push view level s))
       (takes_added (made_as now level states is_cut) (held_as now s) whole less)
 
-  -- some end has its outcome already
+  -- some end already has its outcome
   pub end_had : (ends : List FirstEnd) (s : HeldState M) (outcome : Outcome) → outcome ≡ outcome_in (now s.moment)
       → HasOutcome ends outcome → TakesEnds (held_as now s ∷ []) ends ends
   end_had ends s outcome is has = ends_same (held_as now s) ends (λ ended. subst (HasOutcome ends) is has)
@@ -92,7 +92,7 @@ module _ {M : Type 0} (now : M → Present) where
       (sym (e ∙ ap₂ (λ (row : MemberRow) (out : Outcome). ends ++ end_of s.picks row out ∷ []) n o))
       (ends_more (held_as now s) ends ended (λ has. none (subst (HasOutcome ends) (sym o) has)))
 
-  -- ---- the first state of a list, and then the rest
+  -- ---- the first state of a list, then the rest
 
   pub ways_then : (states rest : List (HeldState M)) (s : HeldState M) (a b c : Made) → states ≡ s ∷ rest
       → TakesWays (ways_from (held_as now s)) a b → TakesWays (all_ways (map (held_as now) rest)) b c

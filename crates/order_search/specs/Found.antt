@@ -3,7 +3,7 @@ use Rattle.explore_defs.specs.Explored.{explored_line, explored_status, outcome_
 use Rattle.explore_laws.specs.Held.{AreFirstHeld, AreHeldLevels, AreJoined, AreRowsOf, Held, IsFilled, all_levels}
 use Rattle.explore_laws.specs.Held.{held_numbers}
 use Rattle.nook_data.specs.Types.{MemberRow, Scenario}
-use Rattle.order_search.specs.Ends.{StandForEnds}
+use Rattle.order_search.specs.Ends.{CoverEnds}
 use Rattle.order_search.specs.Ways.{Made}
 use Rattle.order_search.specs.declared.ends.FirstEnd.{FirstEnd}
 use Rattle.order_search.specs.declared.rows.Explored.{Explored}
@@ -11,11 +11,11 @@ use Rattle.order_search.specs.declared.rows.OutcomeRow.{OutcomeRow}
 
 -- What a search finds, and how far it has come.
 
--- the row of an end
+-- the row of a state that has ended
 abbrev pub row_from : Held → OutcomeRow
 row_from h = record { picks = h.picks; numbers = held_numbers h }
 
--- the row that is kept of an end
+-- the row of a stored end
 abbrev pub row_of_end : FirstEnd → OutcomeRow
 row_of_end end = record { picks = end.picks; numbers = end.numbers }
 
@@ -31,7 +31,7 @@ pub record IsFound (first : Held) (found : Explored) : Type 0 where
   pub is_cut : found.is_cut ≡ is_some cut
   pub rows : found.rows ≡ map row_from firsts
 
--- the rows are those of a scenario
+-- the rows are the rows of a scenario
 pub record HasRows (scenario : Scenario) (found : Explored) : Type 0 where
   pub cut : Option (List ℕ)
   pub firsts : List Held
@@ -44,7 +44,7 @@ unfoldable pub AreLevelsTo : Option (List ℕ) → List Held → List (List Held
 AreLevelsTo cut held [] last = held ≡ last
 AreLevelsTo cut held (next ∷ levels) last = AreJoined cut held next × AreLevelsTo cut next levels last
 
--- a search that has come to a level, and has seen the ends of all levels before it
+-- a search that has reached a level, and has seen the ends of all levels before it
 pub record IsAt (first : Held) (m : Made) (firsts : List FirstEnd) : Type 0 where
   pub cut : Option (List ℕ)
   pub levels : List (List Held)
@@ -57,9 +57,9 @@ pub record IsAt (first : Held) (m : Made) (firsts : List FirstEnd) : Type 0 wher
   pub filled : IsFilled cut (before ++ m.level)
   pub long : All (λ (h : Held). length h.picks ≡ steps) m.level
   pub short : All (λ (h : Held). length h.picks ≤ steps) before
-  pub ends : StandForEnds before firsts
+  pub ends : CoverEnds before firsts
 
--- a search goes on by one level; what it holds grows by that level
+-- a search continues by one level, and stores that level's states in addition
 pub record GoesOn (old new : Made) (before after : List FirstEnd) : Type 0 where
   pub at : (first : Held) → IsAt first old before → IsAt first new after
   pub grown : (first : Held) → IsAt first old before → new.states ≡ old.states + length new.level

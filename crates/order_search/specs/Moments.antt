@@ -4,20 +4,20 @@ use Rattle.explore_laws.specs.Present.{Present, goes_on_by}
 use Rattle.run_defs.specs.Simulation.{Choice, actor_of}
 use Rattle.order_search.specs.declared.states.HeldState.{HeldState}
 
--- What a simulation as it stands says of its present.
+-- What a simulation in progress says of its present.
 
 -- the actors that have a step
 abbrev pub actors_in : Present → List ℕ
 actors_in now = map actor_of (choices_in now)
 
--- one step further, by the choice with this index
+-- the present one step later, by the choice with this index
 pub record IsAfter (now : Present) (index : ℕ) (next : Present) : Type 0 where
   pub by : (c : Choice) → slice_get (choices_in now) index ≡ Some c → next ≡ goes_on_by now c
 
--- what a state stands for, by the present of its simulation
+-- what a state represents, by the present of its simulation
 abbrev pub held_as : {M : Type 0} → (M → Present) → HeldState M → Held
 held_as now s = record { picks = s.picks; now = now s.moment }
 
--- at no step
+-- before any step
 abbrev pub held_at_first : Present → Held
 held_at_first now = record { picks = []; now = now }

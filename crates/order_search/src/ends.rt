@@ -1,4 +1,4 @@
-//! The ends, of which the first of each outcome becomes a row.
+//! The ends: the first of each outcome becomes a row.
 
 ghost use Rattle.explore_laws.specs.Held.{choices_in};
 ghost use Rattle.order_search.specs.Ends.{HasOutcome, TakesEnds};
@@ -14,7 +14,7 @@ use nook_data::memory::NoMemory;
 use nook_data::same::Same;
 use std::alloc::Global;
 
-/// What is kept of the first end of an outcome: what its row shows, and the outcome. The simulation itself is let go.
+/// What is stored of the first end of an outcome: what its row shows, and the outcome. The simulation is dropped.
 #[derive(Drop)]
 pub struct FirstEnd {
     /// The actors of its steps.
@@ -36,7 +36,7 @@ fn has_outcome(firsts: &Items<FirstEnd>, outcome: &Outcome) -> bool
     false
 }
 
-/// A state from which no way goes on is the first end of its outcome, unless there is one already.
+/// Adds a state without continuations as the first end of its outcome, unless there is one already.
 pub fn add_end<M: Moment>(
     alloc: Global,
     state: HeldState<M>,

@@ -21,11 +21,11 @@ use std::alloc::Global;
 pub struct Work<M> {
     /// The states of the level, in the order of their picks.
     pub level: Items<HeldState<M>>,
-    /// Of the levels before it the first end of each outcome.
+    /// The first end of each outcome in the levels before it.
     pub firsts: Items<FirstEnd>,
-    /// How many states are held in all.
+    /// How many states are stored in all.
     pub states: u32,
-    /// Whether one more state would have had to be held.
+    /// Whether one more state would have had to be stored.
     pub is_cut: bool,
 }
 
@@ -47,7 +47,7 @@ pub fn begin<M: Moment>(alloc: Global, first: M) -> Result<Work<M>, NoMemory>
     })
 }
 
-/// Goes on from one state, or takes it as an end. After a cut no way is followed.
+/// Follows the continuations of one state, or adds it as an end. Once truncated, no continuation is followed.
 fn visit<M: Moment>(
     alloc: Global,
     state: HeldState<M>,
@@ -69,7 +69,7 @@ fn visit<M: Moment>(
     follow(alloc, &state, &choices, front)
 }
 
-/// Goes over a level: its ends are taken, and the ways on from it make the next level.
+/// Processes a level: its ends are added, and its continuations make the next level.
 pub fn go_over<M: Moment>(alloc: Global, work: Work<M>) -> Result<Work<M>, NoMemory>
     ensures { IfOk result (λ next. GoesOn (made_as M.now work.level work.states work.is_cut)
         (made_as M.now next.level next.states next.is_cut) work.firsts next.firsts) }

@@ -1,5 +1,5 @@
 //! A search of every order of the steps, level by level, over any simulation that can be followed step by step: it
-//! finds the first order to each outcome.
+//! finds the first order that leads to each outcome.
 #![tactic(auto)]
 
 pub mod answering;

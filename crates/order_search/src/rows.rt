@@ -9,7 +9,7 @@ use nook_data::lists::{Items, Words};
 use nook_data::memory::NoMemory;
 use std::alloc::Global;
 
-/// An outcome: the first order to it, and the numbers of its run.
+/// An outcome: the first order that leads to it, and the numbers of its run.
 #[derive(Drop)]
 pub struct OutcomeRow {
     /// The actors of its steps.
@@ -22,9 +22,9 @@ pub struct OutcomeRow {
 pub struct Explored {
     /// The outcomes, in the order of their picks.
     pub rows: Items<OutcomeRow>,
-    /// How many states were held.
+    /// How many states were stored.
     pub states: u32,
-    /// Whether not every order was followed, since there are too many states.
+    /// Whether some orders were not followed, because there are too many states.
     pub is_cut: bool,
 }
 

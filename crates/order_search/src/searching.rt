@@ -13,10 +13,10 @@ use crate::rows::{Explored, rows_from};
 use nook_data::memory::NoMemory;
 use std::alloc::Global;
 
-/// Follows every order of the steps from the first state on, level by level, with states that are alike held as one,
-/// until nothing goes on or too many states would have to be held.
+/// Follows every order of the steps from the first state on, level by level, and stores equal states as one, until
+/// no state can be continued or too many states would have to be stored.
 ///
-/// In memory are the states of two levels, and of the first end of each outcome its row and the outcome.
+/// Only the states of two levels are in memory, and the row and outcome of the first end of each outcome.
 pub fn search<M: Moment>(alloc: Global, first: M) -> Result<Explored, NoMemory>
     ensures { (scenario : Scenario) → M.now first ≡ present (begins scenario)
         → IfOk result (IsFound (held_first scenario)) }

@@ -13,7 +13,7 @@ pub struct HeldState<M> {
     pub moment: M,
 }
 
-/// The picks and one more.
+/// The picks, with one more.
 pub fn grown(alloc: Global, picks: &Words, actor: u32) -> Result<Words, NoMemory>
     ensures { IfOk result (λ made. made ≡ picks.now ++ actor ∷ []) }
 {

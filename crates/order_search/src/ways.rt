@@ -1,4 +1,4 @@
-//! The ways on from a level: the next level is made of them.
+//! The continuations of a level, of which the next level is made.
 
 ghost use Rattle.explore_laws.specs.Held.{ways_from};
 ghost use Rattle.order_search.specs.Moments.{actors_in, held_as};
@@ -13,14 +13,14 @@ use nook_data::lists::{Items, Words};
 use nook_data::memory::NoMemory;
 use std::alloc::Global;
 
-/// The next level as far as it is made.
+/// The next level so far.
 #[derive(Drop)]
 pub struct Front<M> {
     pub level: Items<HeldState<M>>,
     pub by_digest: ByDigest,
-    /// How many states are held, in this level and all before it.
+    /// How many states are stored, in this level and all before it.
     pub states: u32,
-    /// Whether one more state would have had to be held.
+    /// Whether one more state would have had to be stored.
     pub is_cut: bool,
 }
 
@@ -36,7 +36,7 @@ fn has_same<M: Moment>(level: &Items<HeldState<M>>, candidates: &[usize], moment
     false
 }
 
-/// Takes one way in: it is held unless a state of its level has its present, or no more states may be held.
+/// Adds a continuation, unless a state of its level has the same present or no more states may be stored.
 fn hold<M: Moment>(alloc: Global, state: HeldState<M>, front: &mut Front<M>) -> Result<(), NoMemory>
     ensures { OnOk result (TakesWays (held_as M.now state ∷ [])
         (made_as M.now front.old.level front.old.states front.old.is_cut)
@@ -63,7 +63,7 @@ fn hold<M: Moment>(alloc: Global, state: HeldState<M>, front: &mut Front<M>) -> 
     Ok(())
 }
 
-/// Takes all ways on from a state in, in the order of its actors.
+/// Adds all continuations of a state, in the order of its actors.
 pub fn follow<M: Moment>(
     alloc: Global,
     state: &HeldState<M>,

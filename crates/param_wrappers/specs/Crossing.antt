@@ -17,12 +17,12 @@ abbrev pub with_loan : ℕ → Option Lent → List Bool → List Bool
 with_loan context None loans = loans
 with_loan context (Some l) loans = if l.writable then slice_set loans context true else loans
 
--- the pages with a copy of their own, after a buffer is lent: its two pages among them
+-- the pages with their own copy after a buffer is lent; its two pages are among them
 abbrev pub lent_own : ℕ → Option Lent → List Bool → List Bool
 lent_own context None own = own
 lent_own context (Some l) own = with_own (buffer_start context) BUFFER_WORDS own
 
--- the numbers of a service are such that it can be done
+-- whether a service can be done with its numbers
 abbrev pub can_serve : Service → Bool
 can_serve (service.Alloc n) = nat_le n DATA_WORDS
 can_serve (service.Free address) = true

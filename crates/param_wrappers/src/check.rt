@@ -11,7 +11,7 @@ use nook_data::memory_map::{BUFFERS_END, DATA_START, DATA_WORDS, LAST_OBJECT};
 use object_tracker::Tracker;
 
 /// The service of a kernel call by its number and its two arguments, for a driver of a class. The error names the
-/// smallest argument that fails; 0 is the service itself.
+/// first argument that fails; 0 is the service itself.
 pub fn check_service(
     number: u32,
     first: u32,
@@ -53,7 +53,7 @@ pub fn check_service(
     }
 }
 
-/// The service where its argument passes, else the argument that fails.
+/// The service if its argument passes, otherwise the argument that fails.
 fn needs(passes: bool, number: u32, argument: u32, service: Service) -> Result<Service, BadParam>
     ensures { result ≡ needs passes number argument service }
 {
@@ -67,7 +67,7 @@ fn needs(passes: bool, number: u32, argument: u32, service: Service) -> Result<S
     }
 }
 
-/// The object is one of the twelve and not borrowed.
+/// Whether the object is one of the twelve and not borrowed.
 fn check_borrow(object: u32, tracker: &Tracker) -> Result<Service, BadParam>
     ensures checked { result ≡ checked 4 object 0 Class.Block tracker.now.entries }
     ensures can { IfOk result (λ service. can_serve service ≡ true) }
@@ -76,7 +76,7 @@ fn check_borrow(object: u32, tracker: &Tracker) -> Result<Service, BadParam>
     needs(passes, 4, 1, Service::Borrow { object })
 }
 
-/// The object is borrowed.
+/// Whether the object is borrowed.
 fn check_give_back(object: u32, tracker: &Tracker) -> Result<Service, BadParam>
     ensures checked { result ≡ checked 5 object 0 Class.Block tracker.now.entries }
     ensures can { IfOk result (λ service. can_serve service ≡ true) }
@@ -89,7 +89,7 @@ fn check_give_back(object: u32, tracker: &Tracker) -> Result<Service, BadParam>
     )
 }
 
-/// The class is net; then the frame lies in the driver's data, stacks or buffers; then its length is 1 to 64.
+/// The class must be net; then the frame in the driver's data, stacks or buffers; then its length 1 to 64.
 fn check_frame(start: u32, len: u32, class: Class) -> Result<Service, BadParam>
     ensures checked { result ≡ checked_frame start len class }
     ensures can { IfOk result (λ service. can_serve service ≡ true) }

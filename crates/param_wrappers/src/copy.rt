@@ -1,4 +1,4 @@
-//! The words that an operation takes in, and those that its answer brings out.
+//! The words of an operation that are copied in, and those of its answer that are copied out.
 
 ghost use Rattle.std.specs.Prelude.{◌≡◌, ◌+◌, ◌<◌, ◌≤◌, true, false, if◌then◌else◌, length, slice_range, slice_set};
 ghost use Rattle.std.specs.Prelude.{IfSome};
@@ -24,8 +24,8 @@ pub struct Args {
     pub r3: Word,
 }
 
-/// Puts an operation's words and then zeros into a context's buffer, lends it, for writing where the driver is to
-/// answer words, and gives the entry's arguments. For an entry without a buffer it only gives the arguments. The
+/// Puts an operation's words, then zeros, into a context's buffer; lends it, for writing if the driver is to
+/// answer words; and returns the entry's arguments. For an entry without a buffer it only returns the arguments. The
 /// context is at most 16 and has no buffer, and the operation has at most 128 words. It takes no memory.
 pub fn copy_in(pages: &mut PageMap, tracker: &mut Tracker, context: u8, op: &Op) -> Args
     requires context { context < CONTEXTS }
@@ -36,7 +36,10 @@ pub fn copy_in(pages: &mut PageMap, tracker: &mut Tracker, context: u8, op: &Op)
     ensures loans { pages.new.lent ≡ with_loan context (buffer_of op.now) pages.old.lent }
     ensures own { pages.new.own ≡ lent_own context (buffer_of op.now) pages.old.own }
     ensures entries { tracker.new
-        ≡ record tracker.old { entries = lent_entries context (buffer_of op.now) tracker.old.entries } }
+        ≡ record tracker.old {
+          entries = lent_entries context
+              (buffer_of op.now) tracker.old.entries;
+        } }
 {
     let r3 = buffer_start(context);
     match op {
@@ -93,16 +96,20 @@ pub fn copy_in(pages: &mut PageMap, tracker: &mut Tracker, context: u8, op: &Op)
     }
 }
 
-/// Puts words and then zeros into a context's buffer, and lends it.
+/// Puts words, then zeros, into a context's buffer, and lends it.
 fn lend(pages: &mut PageMap, tracker: &mut Tracker, context: u8, words: &[Word], writable: bool)
     requires context { context < CONTEXTS }
     requires free { list_any (is_buffer_of context) tracker.old.entries ≡ false }
     requires few { length words.now ≤ BUFFER_WORDS }
-    ensures words { pages.new.words ≡ lent_memory context (lent writable words.now) pages.old.words }
+    ensures words { pages.new.words
+        ≡ lent_memory context (lent writable words.now) pages.old.words }
     ensures loans { pages.new.lent ≡ with_loan context (lent writable words.now) pages.old.lent }
     ensures own { pages.new.own ≡ lent_own context (lent writable words.now) pages.old.own }
     ensures entries { tracker.new
-        ≡ record tracker.old { entries = lent_entries context (lent writable words.now) tracker.old.entries } }
+        ≡ record tracker.old {
+          entries = lent_entries context
+              (lent writable words.now) tracker.old.entries;
+        } }
 {
     pages.put_words(buffer_start(context), words, BUFFER_WORDS);
     tracker.begin_buffer(context, writable);
@@ -123,9 +130,11 @@ pub fn copy_out(
     requires context { context < CONTEXTS }
     requires few { count ≤ BUFFER_WORDS }
     requires room { count ≤ room }
-    ensures words { result ≡ slice_range pages.old.words (buffer_start context) (buffer_start context + count) }
+    ensures words { result
+        ≡ slice_range pages.old.words (buffer_start context) (buffer_start context + count) }
     ensures pages { pages.new ≡ record pages.old { lent = slice_set pages.old.lent context false } }
-    ensures entries { tracker.new ≡ record tracker.old { entries = without_buffer context tracker.old.entries } }
+    ensures entries { tracker.new
+        ≡ record tracker.old { entries = without_buffer context tracker.old.entries } }
 {
     let words = pages.words(buffer_start(context), count, room);
     pages.revoke(context);

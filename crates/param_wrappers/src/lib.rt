@@ -1,5 +1,5 @@
-//! What crosses between the kernel and a driver: the words of an operation go in, the words of an answer come out,
-//! and the arguments of a kernel call are checked.
+//! What crosses between the kernel and a driver: the words of an operation are copied in, the words of an answer
+//! copied out, and the arguments of a kernel call checked.
 #![tactic(auto)]
 
 mod check;

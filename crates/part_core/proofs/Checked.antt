@@ -1,4 +1,4 @@
--- An operation that is held has passed the static check, so it covers some block where it covers any.
+-- An operation that is held has passed the static check, so a Read or Write covers at least one block.
 use Rattle.std.proofs.Common.{◌≡◌, ℕ, ◌+◌, ◌/◌, ◌≤◌, ◌<◌, ◌&&◌, nat_le, true, false, Option, Some, None, length, refl, sym, arith, true≢false}
 use Rattle.std.proofs.lemmas.Bool.{and_parts, leb-true}
 use Rattle.claim_index.specs.Claims.{HasBlocks, claimed_by}

@@ -56,7 +56,7 @@ without_last : (call : ℕ) (xs : List Claim) (k : Claim) → AreBelow call xs �
 without_last call [] k b e = rw (eq-eqb k.call call e) refl
 without_last call (x ∷ xs) k b e = rw (ne_eqb x.call call (λ i. omega (arith, i, b.0)), without_last call xs k b.1 e) refl
 
--- a claim that was added for nothing
+-- a claim that was added and removed again
 pub claimed_again : (claims more less : List Claim) (log : CallLog) (call : ℕ) (k : Claim) → AreClaimed claims log → call ≡ log.count + 1
     → k.call ≡ call → more ≡ claims ++ k ∷ [] → less ≡ without_call call more → AreClaimed less log
 claimed_again claims more less log call k a c e m l =
@@ -68,7 +68,7 @@ pub claimed_numbered : (claims : List Claim) (log : CallLog) → AreClaimed clai
 unfolding with_answered_call
 claimed_numbered claims log a = record { claims_are = a.claims_are; numbered = numbered_more 0 log.count log.pending a.numbered }
 
--- a call goes on
+-- a call continues
 
 changed_claim : (call : ℕ) (c : CallEntry) (t : Bool) → claim_of (if t then entered_call c else c) ≡ claim_of c
 changed_claim call c true = refl
@@ -126,7 +126,7 @@ above_lower : (low high : ℕ) (answers : List (ℕ × Answer)) → low ≤ high
 above_lower low high [] l a = tt
 above_lower low high (pair ∷ answers) l a = (omega (arith, l, a.0), above_lower low high answers l a.1)
 
--- answers to later calls leave a claim
+-- answers to later calls do not affect a claim
 first_stays : (answers : List (ℕ × Answer)) (k : Claim) (claims : List Claim) → AreAbove k.call answers
     → without_answered answers (k ∷ claims) ≡ k ∷ without_answered answers claims
 first_stays [] k claims a = refl
@@ -149,13 +149,13 @@ none_at_or_below call low count [] l n = refl
 none_at_or_below call low count (x ∷ xs) l n =
     rw (ne_eqb x.call call (λ i. omega (arith, i, l, n.0)), none_at_or_below call x.call count xs (omega (arith, l, n.0)) n.1) refl
 
--- the claim of a call that is answered ends with it
+-- when a call is answered, its claim ends
 first_goes : (answers : List (ℕ × Answer)) (a : Answer) (x : CallEntry) (count : ℕ) (xs : List CallEntry) → IsNumbered x.call count xs
     → without_answered ((x.call, a) ∷ answers) (claims_of (x ∷ xs)) ≡ without_answered answers (claims_of xs)
 first_goes answers a x count xs n =
     rw (eq-eqb x.call x.call refl) (ap (λ z. without_answered answers z) (none_at_or_below x.call x.call count xs (omega arith) n))
 
--- what the shadow answers of a call, and whether it keeps the call
+-- what the shadow answers to a call, and whether it keeps the call
 stopped_of : (thread : ℕ) (o : Op) (config : List ℕ) (holder : Option ℕ) (queue : List (List ℕ))
     → ((shadow_answer o thread config holder stage.Stop queue ≡ None) × (is_held o ≡ true))
     ⊎ ((a : Answer) × (shadow_answer o thread config holder stage.Stop queue ≡ Some a) × (is_held o ≡ false))
@@ -201,11 +201,11 @@ claimed_given_up claims less log answers failures a e l = record {
   numbered = omega arith;
 }
 
-pub claimed_behind_stop : (claims less : List Claim) (log new : CallLog) (answers : List (ℕ × Answer)) (queue : List (List ℕ)) (failures limit : ℕ)
+pub claimed_after_stop : (claims less : List Claim) (log new : CallLog) (answers : List (ℕ × Answer)) (queue : List (List ℕ)) (failures limit : ℕ)
     → AreClaimed claims log → (failures ≤ limit → new ≡ held_by_shadow log)
     → (failures ≤ limit → answers ≡ stop_answers log.pending log.config log.holder queue) → (limit < failures → new ≡ no_call_open log)
     → (limit < failures → answers ≡ gone_answers failures log.pending) → less ≡ without_answered answers claims → AreClaimed less new
-claimed_behind_stop claims less log new answers queue failures limit a h s n g l = elim (cases_lt limit failures) [
+claimed_after_stop claims less log new answers queue failures limit a h s n g l = elim (cases_lt limit failures) [
   | inl past ↦ rw (n past) (claimed_given_up claims less log answers failures a (g past) l)
   | inr within ↦ rw (h within) (claimed_stopped claims less log answers queue a (s within) l)
 ]

@@ -50,7 +50,7 @@ sound_at spec journal p valid run e = rw e (run_sound spec journal valid run)
 pub sound : (r : PartRun) → IsKept r → IsSound r.state
 sound r k = sound_at r.state.spec r.journal r.state k.valid k.run k.state
 
--- a step more
+-- one more step
 
 run_on : (spec : PartSpec) (journal : List Event) (p : PartState) (s : Step) → IsRun spec journal → p ≡ state_of spec journal
     → enabled p s ≡ true → IsRun spec (journal ++ event_of p s ∷ [])
@@ -81,7 +81,7 @@ kept_at_first spec valid = kept_with spec [] (opening spec) (opening spec) (open
 pub same_faults_at_first : (script : List Fault) (spec : PartSpec) → AreSameFaults script spec.faults → AreSameFaults script (opening spec).spec.faults
 same_faults_at_first script spec same = rw (opening_spec spec) same
 
--- the step as code takes it
+-- the step as the code takes it
 
 pub kept_on : (p q : PartState) (journal more : List Event) (s : Step) (e : Event) (script : List Fault)
     → IsKept (record { state = p; journal = journal }) → enabled p s ≡ true → stepped p s ≡ stepped_to q e → more ≡ journal ++ e ∷ []
@@ -91,7 +91,7 @@ kept_on p q journal more s e script k n t m same =
     let event : e ≡ event_of p s = ap (λ x. x.event) (sym t) in
     rw (m, state, event) (kept_after (record { state = p; journal = journal }) s k n, same_faults_after script p s same)
 
--- what comes next
+-- the next step
 
 next_enabled : (p : PartState) (x : Option Step) → HasProgress p → x ≡ next_any p → IfSome x (λ s. enabled p s ≡ true)
 next_enabled p None h e = tt
@@ -107,7 +107,7 @@ none_open p (Some s) h e = tt
 pub kept_none_open : (r : PartRun) (x : Option Step) → IsKept r → x ≡ next_any r.state → IfNone x (r.state.log.pending ≡ [])
 kept_none_open r x k e = none_open r.state x (progress r.state (sound r k).fit (sound r k).tied) e
 
--- an event has answered a call that was given its number and is open no more, and no other
+-- an event has answered exactly those calls that were given a number and are no longer open
 pub kept_answered : (r : PartRun) (call : ℕ) → IsKept r → is_some (answered_at r.journal call) ≡ is_answered r.state.log call
 kept_answered r call k =
     run_answered r.state.spec r.journal (valid_fits r.state.spec k.valid) k.run call

@@ -1,4 +1,4 @@
--- What a step that may be taken may rest on, by what holds of every part.
+-- What a step that may be taken may rely on, by what holds of every part.
 use Rattle.std.proofs.Common.{◌≡◌, ℕ, ◌+◌, ◌≤◌, ◌<◌, ◌^◌, true, false, Bool, Option, Some, None, List, IfSome, IsSome, refl, sym, ap, ◌∙◌, arith, true≢false, length}
 use Rattle.std.specs.List.{list_any}
 use Rattle.std.proofs.lemmas.Bool.{and_parts}

@@ -1,4 +1,4 @@
--- A reply that the class takes answers the call.
+-- A reply that the class accepts answers the call.
 use Rattle.std.proofs.Common.{◌≡◌, ℕ, ◌+◌, ◌-◌, ◌==◌, ◌&&◌, nat_le, nat_lt, Bool, true, false, Option, Some, None, List, IfSome, refl, sym, ap, ◌∙◌, arith}
 use Rattle.nook_data.specs.declared.classes.Accept.{Accept}
 use Rattle.nook_data.specs.declared.classes.Accept.TheVariants as accepts
@@ -32,12 +32,12 @@ pub taken_reply : (p q r : PartState) (context status : ℕ) (c : CallEntry) (a 
     → o.end ≡ end.Reply status → o.answer ≡ Some a → o.failure ≡ None
     → call_replied status p (call_of_thread context p.log.pending) ≡ crossed_to r o
 unfolding closes_call
-taken_reply p q r context status c a o found acc told moved closed e b f =
-    let same : a ≡ reply_answer c.op c.thread p = rw found at told in
-    let behind : q ≡ record p { queue = queue_after c.op p.queue } = rw found at moved in
-    let again : call_of_thread context q.log.pending ≡ Some c = ap (λ z. call_of_thread context z.log.pending) behind ∙ found in
+taken_reply p q r context status c a o found acc reported moved closed e b f =
+    let same : a ≡ reply_answer c.op c.thread p = rw found at reported in
+    let rest_after : q ≡ record p { queue = queue_after c.op p.queue } = rw found at moved in
+    let again : call_of_thread context q.log.pending ≡ Some c = ap (λ z. call_of_thread context z.log.pending) rest_after ∙ found in
     let second : r ≡ record (closes_call c q) { queue = q.queue } = rw again at closed in
-    let last : closes_call c p ≡ r = sym (second ∙ ap (λ z. record (closes_call c z) { queue = z.queue }) behind) in
+    let last : closes_call c p ≡ r = sym (second ∙ ap (λ z. record (closes_call c z) { queue = z.queue }) rest_after) in
     rw (found, acc, call_replied, ← same) (ap (crossed_with status a) last ∙ outcome_of r o status a e b f)
 
 io_leaves_queue : (o : Op) (status block : ℕ) (queue : List (List ℕ)) → accept o status ≡ accepts.IoError block → queue_after o queue ≡ queue

@@ -1,4 +1,4 @@
--- What the shadow holds leaves the queue as it is.
+-- If the shadow holds an operation, the queue is unchanged.
 use Rattle.std.proofs.Common.{◌≡◌, ℕ, Option, Some, None, List, refl}
 use Rattle.nook_data.specs.declared.calls.Op.{Op}
 use Rattle.nook_data.specs.declared.calls.Op.TheVariants as op

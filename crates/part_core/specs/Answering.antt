@@ -6,7 +6,7 @@ use Rattle.part_defs.specs.Calls.{answer_in, queue_in}
 use Rattle.nook_data.specs.Classes.{static_check}
 use Rattle.part_defs.specs.State.{PartState}
 
--- What an invocation is answered at once, and the queue that this leaves.
+-- How an invocation is answered at once, and the queue that this leaves.
 
 abbrev pub answer_by : Option Answer → ℕ → Op → PartState → Option Answer
 answer_by None thread o p = answer_in p.mode thread o p
@@ -16,7 +16,7 @@ abbrev pub queue_by : Option Answer → Op → PartState → List (List ℕ)
 queue_by None o p = queue_in p.mode o p.queue
 queue_by (Some a) o p = p.queue
 
--- the answer by the static check, or else by the mode
+-- the answer by the static check, otherwise by the mode
 abbrev pub answer_at_once : ℕ → Op → PartState → Option Answer
 answer_at_once thread o p = answer_by (static_check p.spec.class p.spec.blocks o) thread o p
 

@@ -10,25 +10,25 @@ use Rattle.part_defs.specs.Log.{call_of_thread}
 use Rattle.part_defs.specs.State.{PartState}
 use Rattle.part_core.specs.declared.crossing.Outcome.{Outcome}
 
--- How a method's result stands to the definition of its crossing.
+-- How a method's result relates to the definition of its crossing.
 
 abbrev pub crossed_to : PartState → Outcome → Crossed
 crossed_to p o = record { state = p; end = o.end; answer = o.answer; failure = o.failure }
 
--- a Read is of at most 8 blocks, a Set of one of four keys
+-- a Read covers at most 8 blocks, a Set has one of four keys
 abbrev pub IsWithin : Op → Type 0
 IsWithin (op.Read first count) = count ≤ 8
 IsWithin (op.Set key value) = key ≤ 3
 IsWithin _ = Unit {0}
 
--- a call of one of 16 threads, its operation the class's, with blocks and numbers in their ranges
+-- a call of one of 16 threads; its operation is the class's, with blocks and numbers in their ranges
 pub record IsAnswerable (class : Class) (c : CallEntry) : Type 0 where
   pub low : c.thread < CONTEXTS
   pub of_class : is_of_class class c.op ≡ true
   pub range : first_of_op c.op + blocks_of_op c.op ≤ 2 ^ 32
   pub within : IsWithin c.op
 
--- what a crossing of a context may rest on
+-- what a crossing of a context may rely on
 pub record IsCrossable (context : ℕ) (p : PartState) : Type 0 where
   pub low : context < CONTEXTS
   pub failures : p.failures < 2 ^ 31

@@ -9,8 +9,8 @@ use Rattle.machine_defs.specs.Entries.{is_buffer_of}
 use Rattle.part_defs.specs.Log.{call_of_thread}
 use Rattle.part_defs.specs.State.{PartState}
 
--- a call of one of 16 threads whose operation is its class's and fits a buffer, with attempts left to be counted, and
--- whose buffer is not lent
+-- a call of one of 16 threads whose operation is its class's and fits a buffer, whose attempts can still be counted,
+-- and whose buffer is not lent
 pub record IsEnterableCall (p : PartState) (c : CallEntry) : Type 0 where
   pub low : c.thread < CONTEXTS
   pub of_class : is_of_class p.spec.class c.op ≡ true
@@ -18,7 +18,7 @@ pub record IsEnterableCall (p : PartState) (c : CallEntry) : Type 0 where
   pub attempts : c.attempts < 2 ^ 31
   pub free : list_any (is_buffer_of c.thread) p.domain.entries ≡ false
 
--- what an Enter of a thread may rest on
+-- what an Enter of a thread may rely on
 pub record IsEnterable (thread : ℕ) (p : PartState) : Type 0 where
   pub some : IsSome (call_of_thread thread p.log.pending)
   pub call : IfSome (call_of_thread thread p.log.pending) (IsEnterableCall p)

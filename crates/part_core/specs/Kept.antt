@@ -16,7 +16,7 @@ pub record IsKept (r : PartRun) : Type 0 where
   pub run : IsRun r.state.spec r.journal
   pub state : r.state ≡ state_of r.state.spec r.journal
 
--- what the laws of runs say of the state, and what each step rests on
+-- what the laws of runs say of the state, and what each step relies on
 pub record IsSound (p : PartState) : Type 0 where
   pub fit : IsFit p
   pub tied : IsTied p
@@ -25,6 +25,6 @@ pub record IsSound (p : PartState) : Type 0 where
   pub blocks : p.spec.blocks ≤ 256
   pub bursts : p.bursts < 2 ^ 23
 
--- the two lists have the same faults of each burst, in the same order
+-- the two lists have the same faults for each burst, in the same order
 abbrev pub AreSameFaults : List Fault → List Fault → Type 0
 AreSameFaults script faults = (burst : ℕ) → faults_of_burst burst script ≡ faults_of_burst burst faults

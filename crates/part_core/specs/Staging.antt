@@ -8,7 +8,7 @@ use Rattle.nook_data.specs.declared.limits.TheConstants.{SHADOW}
 use Rattle.nook_data.specs.declared.memory_map.TheConstants.{DATA_WORDS, TEXT_WORDS}
 use Rattle.part_laws.specs.Tied.{is_driving_stage}
 
--- what a stage may rest on: the log has the class's defaults, the image fits, and the shadow's buffer is not lent where
+-- what a stage may rely on: the log has the class's defaults, the image fits, and the shadow's buffer is not lent if
 -- the shadow's context is to enter
 pub record IsReady (s : Stage) (p : PartState) : Type 0 where
   pub defaults : p.log.defaults ≡ defaults_of p.spec.class

@@ -10,7 +10,7 @@ use nook_data::memory::NoMemory;
 use nook_data::steps::{Event, Step};
 
 impl State {
-    /// The frame goes to the ring, or is lost where that is full. The event has a copy.
+    /// The frame goes to the ring, or is lost if that is full. The event has a copy.
     #[tactic(auto, unfolding(part_defs::specs::Steps::after_arrival, part_defs::specs::Steps::enabled))]
     pub fn arrive(&mut self, frame: Words) -> Result<Event, NoMemory>
         requires { enabled self.old (Step.Arrive frame) ≡ true }

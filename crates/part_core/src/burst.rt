@@ -1,4 +1,4 @@
-//! The step Burst: a context runs to its crossing, and what the crossing asks is done.
+//! The step Burst: a context runs to its crossing, and what the crossing requests is done.
 
 ghost use Rattle.std.specs.Prelude.{◌≡◌, ◌+◌, ◌^◌, ◌<◌};
 ghost use Rattle.part_defs.specs.Domain.{attempt_bursts};
@@ -19,7 +19,7 @@ use nook_data::steps::Event;
 use std::mem;
 
 impl State {
-    /// One burst of a context, with the faults of its number. It takes its memory first.
+    /// Runs one burst of a context, with the faults of its number. It allocates its memory first.
     #[tactic(auto, unfolding(part_defs::specs::Steps::burst_stepped))]
     pub fn burst(&mut self, context: u8, faults: &[Fault]) -> Result<Event, NoMemory>
         requires crossable { IsCrossable context self.old }
@@ -64,7 +64,8 @@ fn bursted(
     acts: Acts,
     outcome: Outcome,
 ) -> Event
-    ensures { result ≡ Event.Burst context call burst done.now.count outcome.end acts outcome.answer outcome.failure }
+    ensures { result ≡ Event.Burst context call burst done.now.count outcome.end acts outcome.answer
+        outcome.failure }
 {
     Event::Burst {
         context,

@@ -1,4 +1,4 @@
-//! What the crossing at the end of a burst asks is done in the same step.
+//! What the crossing at the end of a burst requests is done in the same step.
 
 ghost use Rattle.std.specs.Prelude.{◌≡◌, ◌<◌, ◌^◌, None, true};
 ghost use Rattle.part_defs.specs.Crossing.{after_crossing, failed_crossing, is_last};
@@ -20,7 +20,7 @@ pub struct Outcome {
 }
 
 impl State {
-    /// A trap; a 32nd burst that is no reply; a kernel call; a pause; or a reply. It takes no memory.
+    /// Handles a trap, a 32nd burst that is no reply, a kernel call, a pause, or a reply. It takes no memory.
     #[tactic(auto, unfolding(part_defs::specs::Crossing::after_crossing))]
     pub fn cross(&mut self, context: u8, end: BurstEnd, rooms: &mut Rooms) -> Outcome
         requires crossable { IsCrossable context self.old }
@@ -55,7 +55,7 @@ impl State {
         self.domain.bursts(context) == MOST_BURSTS
     }
 
-    /// The driver failed: it is counted, also in object 0, the shadow's call ends, and the part recovers from Stop on.
+    /// The driver failed: the failure is counted, also in object 0; the shadow's call ends; recovery begins with Stop.
     #[tactic(auto, unfolding(part_defs::specs::Crossing::fails))]
     pub fn fail(&mut self, end: End, cause: FailCause) -> Outcome
         requires { self.old.failures < 2 ^ 31 }

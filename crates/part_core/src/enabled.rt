@@ -29,7 +29,7 @@ impl State {
         }
     }
 
-    /// One of 16 threads that has no open call, while numbers are left.
+    /// Whether this is one of 16 threads, has no open call, and numbers are left.
     pub fn can_invoke(&self, thread: u8) -> bool
         ensures { result ≡ can_invoke self.now thread }
     {
@@ -38,7 +38,7 @@ impl State {
             && self.log.count() < MOST_CALLS
     }
 
-    /// The thread's call is Held, and nothing blocks it, while the driver runs.
+    /// Whether the driver runs, the thread's call is Held, and nothing blocks it.
     pub fn can_enter(&self, thread: u8) -> bool
         ensures { result ≡ can_enter self.now thread }
     {
@@ -55,7 +55,7 @@ impl State {
         }
     }
 
-    /// Whether an open call with a smaller number conflicts with the open call.
+    /// Whether an open call with a smaller number conflicts with this open call.
     fn is_blocked(&self, call: &CallEntry) -> bool
         requires { open_call call.now.call self.now.log.pending ≡ Some call.now }
         ensures { result ≡ is_blocked self.now.spec.class call.now self.now.log.pending }
@@ -63,15 +63,16 @@ impl State {
         self.log.blocked_by(self.spec.class, call.call).is_some()
     }
 
-    /// The number of the open call with the smallest number that the open call `call` has to wait for.
+    /// The number of the first open call that the open call `call` has to wait for.
     pub fn blocked_by(&self, call: u32) -> Option<u32>
         requires { IsSome (open_call call self.now.log.pending) }
-        ensures { IfSome (open_call call self.now.log.pending) (λ c. result ≡ call_number (blocked_by self.now.spec.class c self.now.log.pending)) }
+        ensures { IfSome (open_call call self.now.log.pending)
+            (λ c. result ≡ call_number (blocked_by self.now.spec.class c self.now.log.pending)) }
     {
         self.log.blocked_by(self.spec.class, call)
     }
 
-    /// The context is Inside: the shadow's own, or while the driver runs that of a thread's call.
+    /// Whether the context is Inside: the shadow's own, or, while the driver runs, that of a thread's call.
     pub fn can_burst(&self, context: u8) -> bool
         ensures { result ≡ can_burst self.now context }
     {
@@ -99,14 +100,14 @@ impl State {
         self.domain.is_inside(SHADOW)
     }
 
-    /// A stage is due, and does not wait for the shadow's call.
+    /// Whether a stage is due and does not wait for the shadow's call.
     pub fn can_stage(&self) -> bool
         ensures { result ≡ can_stage self.now }
     {
         self.stage_due().is_some() && !self.is_driven()
     }
 
-    /// A frame of 1 to 64 words for a part of class net, while arrivals are left.
+    /// Whether this is a frame of 1 to 64 words for a part of class net, and arrivals are left.
     pub fn can_arrive(&self, frame: &Words) -> bool
         ensures { result ≡ can_arrive self.now frame.now }
     {

@@ -40,15 +40,15 @@ impl State {
                 let frame = self.front();
                 entered(call, caller, attempt, Some(Answer::Frame(frame)))
             }
-            Admit::Enter { entry: place } => {
-                self.domain.enter(caller, place, &entry.op);
+            Admit::Enter { entry: index } => {
+                self.domain.enter(caller, index, &entry.op);
                 self.log.entered(call);
                 entered(call, caller, attempt, None)
             }
         }
     }
 
-    /// The oldest frame of the queue, which leaves it. None waits in an empty queue.
+    /// Takes the oldest frame from the queue; an empty frame if the queue is empty.
     fn front(&mut self) -> Words
         ensures frame { result ≡ head_of self.old.queue }
         ensures state { self.new ≡ record self.old { queue = tail_of self.old.queue } }
@@ -72,7 +72,7 @@ fn entered(call: u32, thread: u8, attempt: u32, answer: Option<Answer>) -> Event
     }
 }
 
-/// What the class does with an operation of it.
+/// How the class handles one of its operations.
 fn admit(class: Class, thread: u8, op: &Op, state: &ClassState) -> Admit
     requires { is_of_class class op.now ≡ true }
     ensures { result ≡ admit class thread op.now state.now.holder state.now.queued }

@@ -1,4 +1,4 @@
-//! The step Invoke: a thread asks for an operation, which is answered at once or stays open.
+//! The step Invoke: a thread requests an operation, which is answered at once or stays open.
 
 ghost use Rattle.std.specs.Prelude.{◌≡◌, true, IfNone};
 ghost use Rattle.part_defs.specs.Calls.{answer_in, after_invoke, queue_in};
@@ -46,7 +46,7 @@ impl State {
         }
     }
 
-    /// What the operation is answered at once. Where it is answered with a frame, that leaves the queue.
+    /// How the operation is answered at once. If it is answered with a frame, the frame leaves the queue.
     fn answer_at_once(&mut self, thread: u8, op: &Op) -> Option<Answer>
         ensures answer { result ≡ answer_at_once thread op.now self.old }
         ensures state { self.new ≡ record self.old { queue = queue_at_once op.now self.old } }
@@ -60,7 +60,8 @@ impl State {
 
     fn answer_in_mode(&mut self, thread: u8, op: &Op) -> Option<Answer>
         ensures answer { result ≡ answer_in self.old.mode thread op.now self.old }
-        ensures state { self.new ≡ record self.old { queue = queue_in self.old.mode op.now self.old.queue } }
+        ensures state { self.new
+            ≡ record self.old { queue = queue_in self.old.mode op.now self.old.queue } }
         ensures held { IfNone result (self.new ≡ self.old) }
     {
         match self.mode {
@@ -74,7 +75,9 @@ impl State {
 
     #[tactic(auto, using(recovery_manager::proofs::OpenCalls::answered_by_front, crate::proofs::ShadowAnswers::held_leaves_queue))]
     fn shadow_answer(&mut self, thread: u8, op: &Op, stage: Stage) -> Option<Answer>
-        ensures answer { result ≡ shadow_answer op.now thread self.old.log.config self.old.log.holder stage self.old.queue }
+        ensures answer { result
+            ≡ shadow_answer op.now thread self.old.log.config self.old.log.holder stage
+            self.old.queue }
         ensures state { self.new ≡ record self.old { queue = queue_after op.now self.old.queue } }
         ensures held { IfNone result (self.new ≡ self.old) }
     {

@@ -17,12 +17,13 @@ use nook_data::machine::{BadParam, Service};
 use nook_data::steps::{End, FailCause};
 
 impl State {
-    /// A kernel call in the last burst of an attempt is a failure; any other is served where its check passes.
+    /// A kernel call in the last burst of an attempt is a failure; any other is served if its check passes.
     #[tactic(auto, unfolding(part_defs::specs::Crossing::after_crossing))]
     pub fn call_kernel(&mut self, context: u8, service: u32, rooms: &mut Rooms) -> Outcome
         requires crossable { IsCrossable context self.old }
         requires rooms { rooms.old ≡ true }
-        ensures { after_crossing context (BurstEnd.Kcall service) self.old ≡ crossed_to self.new result }
+        ensures { after_crossing context (BurstEnd.Kcall service) self.old
+            ≡ crossed_to self.new result }
     {
         if self.is_last(context) {
             let refused = self.refused(context, service);
@@ -32,7 +33,7 @@ impl State {
         }
     }
 
-    /// A kernel call is served where its check passes.
+    /// A kernel call is served if its check passes.
     fn check_and_serve(&mut self, context: u8, number: u32, rooms: &mut Rooms) -> Outcome
         requires crossable { IsCrossable context self.old }
         requires rooms { rooms.old ≡ true }
@@ -53,10 +54,12 @@ impl State {
         }
     }
 
-    /// The service that a context asks for, or its failing argument.
+    /// The service that a context requests, or its failing argument.
     fn checked(&self, context: u8, number: u32) -> Result<Service, BadParam>
         requires { context < CONTEXTS }
-        ensures checked { result ≡ checked number (first_argument context self.now.domain) (second_argument context self.now.domain) self.now.spec.class self.now.domain.entries }
+        ensures checked { result
+            ≡ checked number (first_argument context self.now.domain)
+            (second_argument context self.now.domain) self.now.spec.class self.now.domain.entries }
         ensures can { IfOk result (λ service. can_serve service ≡ true) }
     {
         self.domain.check(context, number)
@@ -77,24 +80,26 @@ impl State {
         }
     }
 
-    /// A kernel call whose check passed is served; its result goes to r1.
+    /// Serves a kernel call whose check passed; its result goes to r1.
     fn serve(&mut self, context: u8, number: u32, service: Service, rooms: &mut Rooms) -> Outcome
         requires crossable { IsCrossable context self.old }
         requires rooms { rooms.old ≡ true }
         requires passed { can_serve service ≡ true }
-        ensures { served_call number context (served (heap_start self.old) service self.old.domain.memory self.old.domain.entries self.old.queue) self.old ≡ crossed_to self.new result }
+        ensures { served_call number context
+            (served (heap_start self.old) service self.old.domain.memory self.old.domain.entries
+            self.old.queue) self.old ≡ crossed_to self.new result }
     {
         let (first, second) = self.domain.arguments(context);
         let (moved, frame) = rooms.use_for_service();
-        let told = self
+        let reported = self
             .domain
             .serve(context, service, &mut self.queue, moved, frame);
         goes_on(End::Service {
             service: number,
             first,
             second,
-            answer: Some(told.answer),
-            moved: told.moved.fitted(),
+            answer: Some(reported.answer),
+            moved: reported.moved.fitted(),
         })
     }
 }

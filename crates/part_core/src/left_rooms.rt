@@ -1,4 +1,4 @@
-//! Memory that parts leave, for the parts of later runs.
+//! Memory that parts leave for the parts of later runs.
 
 use crate::rooms::Rooms;
 use domain_pages::PageMap;
@@ -6,8 +6,8 @@ use nook_data::journal::SpareRooms;
 use nook_data::memory::NoMemory;
 use std::alloc::Global;
 
-/// The memory that parts left, for acts, for crossings and for pages: whoever makes one run after another takes it once
-/// for all of them.
+/// The memory that parts left, for acts, for crossings and for pages, so that a sequence of runs allocates it only
+/// once.
 pub struct LeftRooms {
     spare: Vec<SpareRooms>,
     rooms: Vec<Rooms>,
@@ -15,7 +15,7 @@ pub struct LeftRooms {
 }
 
 impl Drop for LeftRooms {
-    /// By hand, so that it is proved once, and not in each function that owns what parts left.
+    /// Written by hand, so that it is proved once and not in each function that owns what parts left.
     fn drop(self) {
         let LeftRooms {
             spare: _,
@@ -26,7 +26,7 @@ impl Drop for LeftRooms {
 }
 
 impl LeftRooms {
-    /// Nothing is left yet. It takes no memory.
+    /// An empty value, without any parts' memory. It takes no memory.
     pub fn none(alloc: Global) -> LeftRooms {
         LeftRooms {
             spare: Vec::new(alloc),
@@ -35,7 +35,7 @@ impl LeftRooms {
         }
     }
 
-    /// The memory for acts that a part left, or where there is nothing no memory yet.
+    /// The memory for acts that a part left, or an empty one if there is none.
     pub fn take(&mut self, alloc: Global) -> SpareRooms {
         match self.spare.pop() {
             Some(spare) => spare,
@@ -43,12 +43,12 @@ impl LeftRooms {
         }
     }
 
-    /// Keeps the memory for acts that a part left. It is dropped where there is no memory to keep it in.
+    /// Keeps the memory for acts that a part left. It is dropped if there is no memory to keep it in.
     pub fn give(&mut self, spare: SpareRooms) {
         let _kept = self.spare.push(spare);
     }
 
-    /// The room for crossings that a part left, or where there is nothing no room yet.
+    /// The room for crossings that a part left, or an empty one if there is none.
     pub fn take_rooms(&mut self) -> Rooms {
         match self.rooms.pop() {
             Some(rooms) => rooms,
@@ -56,12 +56,12 @@ impl LeftRooms {
         }
     }
 
-    /// Keeps the room for crossings that a part left. It is dropped where there is no memory to keep it in.
+    /// Keeps the room for crossings that a part left. It is dropped if there is no memory to keep it in.
     pub fn give_rooms(&mut self, rooms: Rooms) {
         let _kept = self.rooms.push(rooms);
     }
 
-    /// Pages that a part left, or where there is nothing new ones. What they hold is nothing to count on.
+    /// Pages that a part left, or new ones if there are none. Their contents are arbitrary.
     pub fn take_pages(&mut self, alloc: Global) -> Result<PageMap, NoMemory> {
         match self.pages.pop() {
             Some(pages) => Ok(pages),
@@ -69,7 +69,7 @@ impl LeftRooms {
         }
     }
 
-    /// Keeps the pages that a part left. They are dropped where there is no memory to keep them in.
+    /// Keeps the pages that a part left. They are dropped if there is no memory to keep them in.
     pub fn give_pages(&mut self, pages: PageMap) {
         let _kept = self.pages.push(pages);
     }

@@ -1,7 +1,7 @@
 //! One part: a driver's domain with its kernel side, its device and its journal, one atomic step at a time.
 //!
-//! A part of any class takes any step that the definition of parts allows, recovers at every limit, and adds one
-//! event to its journal for each step. Whatever its driver's image holds, each call returns.
+//! A part of any class takes any step that the definition of parts allows, recovers under every limit, and adds one
+//! event to its journal for each step. Whatever its driver's image contains, each call returns.
 #![tactic(auto)]
 
 mod arrive;

@@ -1,4 +1,4 @@
-//! What comes next in a part.
+//! The next step of a part.
 
 ghost use Rattle.std.specs.Prelude.{◌≡◌};
 ghost use Rattle.part_defs.specs.Runs.{next_any, next_for, next_of_calls, next_recovery};
@@ -8,7 +8,7 @@ use nook_data::limits::SHADOW;
 use nook_data::steps::Step;
 
 impl State {
-    /// The Enter or the Burst of a thread's open call, where it may be taken. A thread without an open call has none.
+    /// The Enter or the Burst of a thread's open call, if it may be taken. A thread without an open call has no step.
     #[tactic(auto, unfolding(part_defs::specs::Runs::next_for, part_defs::specs::Steps::enabled))]
     pub fn next_for(&self, thread: u8) -> Option<Step>
         ensures { result ≡ next_for self.now thread }
@@ -24,7 +24,7 @@ impl State {
         }
     }
 
-    /// The stage, or the burst of the shadow's context, where it may be taken.
+    /// The stage, or the burst of the shadow's context, if it may be taken.
     #[tactic(auto, unfolding(part_defs::specs::Runs::next_recovery, part_defs::specs::Steps::enabled))]
     pub fn next_recovery(&self) -> Option<Step>
         ensures { result ≡ next_recovery self.now }
@@ -38,7 +38,7 @@ impl State {
         }
     }
 
-    /// The recovery's next step, else that of the open call with the smallest number that has one.
+    /// The recovery's next step, otherwise that of the open call with the smallest number that has one.
     #[tactic(auto, unfolding(part_defs::specs::Runs::next_any))]
     pub fn next_any(&self) -> Option<Step>
         ensures { result ≡ next_any self.now }

@@ -19,7 +19,7 @@ use shadow_log::ShadowLog;
 use std::alloc::Global;
 use std::marker::Model;
 
-/// What the shadow keeps, with the claims of the open calls. A call claims from its Invoke on, whether it is Held or Inside,
+/// What the shadow keeps, with the claims of the open calls. A call claims from its Invoke on, whether Held or Inside,
 /// until it is answered. Contracts see the log.
 #[derive(Drop)]
 pub struct OpenCalls {
@@ -49,7 +49,7 @@ impl OpenCalls {
         }
     }
 
-    /// A call that stays open. What it claims is added before it is: after `NoMemory` nothing is changed.
+    /// Adds a call that stays open. Its claim is added before the call: after `NoMemory` nothing is changed.
     pub fn invoke(&mut self, thread: u8, op: Op) -> Result<u32, NoMemory>
         requires few { self.old.count < 100000 }
         requires blocks { HasBlocks (claimed_by op) }
@@ -68,7 +68,7 @@ impl OpenCalls {
         }
     }
 
-    /// A call that is answered at once: only its number is given.
+    /// Counts a call that is answered at once: it only gets a number.
     pub fn number(&mut self) -> u32
         requires { self.old.count < 100000 }
         ensures log { self.new ≡ with_answered_call self.old }
@@ -77,7 +77,7 @@ impl OpenCalls {
         self.log.number()
     }
 
-    /// The call goes Inside, as one attempt more. It claims what it did.
+    /// The call goes Inside; it has one more attempt. Its claim is unchanged.
     pub fn entered(&mut self, call: u32)
         requires { IfSome (open_call call self.old.pending) (λ c. c.attempts < 4294967295) }
         ensures { self.new ≡ after_entering call self.old }
@@ -92,7 +92,7 @@ impl OpenCalls {
         self.log.acknowledge(call);
     }
 
-    /// The call is open no more, and claims nothing.
+    /// The call is no longer open, and claims nothing.
     pub fn answered(&mut self, call: u32)
         ensures { self.new ≡ after_answering call self.old }
     {
@@ -100,8 +100,8 @@ impl OpenCalls {
         self.claims.remove(call);
     }
 
-    /// The driver is stopped: each open call is answered or held, as `recovery_manager::stop` tells. The calls that are
-    /// answered claim nothing any more.
+    /// The driver is stopped: each open call is answered or held, as `recovery_manager::stop` says. The calls that are
+    /// answered no longer claim anything.
     pub fn stop<Q: RxFront>(
         &mut self,
         alloc: Global,
@@ -111,10 +111,13 @@ impl OpenCalls {
     ) -> Result<CallAnswers, NoMemory>
         ensures held { failures ≤ limit → OnOk result (self.new ≡ held_by_shadow self.old) }
         ensures answers { failures ≤ limit → IfOk result (λ answers.
-            answers ≡ stop_answers self.old.pending self.old.config self.old.holder (Q.frames queue.old)) }
-        ensures frames { failures ≤ limit → OnOk result (Q.frames queue.new ≡ stop_queue self.old.pending (Q.frames queue.old)) }
+            answers ≡ stop_answers self.old.pending self.old.config self.old.holder
+            (Q.frames queue.old)) }
+        ensures frames { failures ≤ limit
+            → OnOk result (Q.frames queue.new ≡ stop_queue self.old.pending (Q.frames queue.old)) }
         ensures closed { limit < failures → OnOk result (self.new ≡ no_call_open self.old) }
-        ensures gone { limit < failures → IfOk result (λ answers. answers ≡ gone_answers failures self.old.pending) }
+        ensures gone { limit < failures
+            → IfOk result (λ answers. answers ≡ gone_answers failures self.old.pending) }
         ensures kept { limit < failures → queue.new ≡ queue.old }
         ensures log { OnErr result (self.new ≡ self.old) }
         ensures queue { OnErr result (queue.new ≡ queue.old) }
@@ -124,15 +127,15 @@ impl OpenCalls {
         Ok(answers)
     }
 
-    /// The number of the open call with the smallest number that an open call has to wait for in a part of the class; None
-    /// exactly where there is none, or the call is not open.
+    /// The number of the first open call that an open call has to wait for, in a part of the class; None exactly if it
+    /// waits for no call, or is not open.
     pub fn blocked_by(&self, class: Class, call: u32) -> Option<u32>
         ensures { result ≡ blocker_of class (open_call call self.now.pending) self.now.pending }
     {
         self.claims.first_conflict(class, call)
     }
 
-    /// The log alone.
+    /// The log without the claims.
     pub fn shadow(&self) -> &ShadowLog
         ensures { result.now ≡ self.now }
     {
@@ -153,7 +156,7 @@ impl OpenCalls {
         self.log.holder()
     }
 
-    /// How many numbers were given.
+    /// How many numbers were given out.
     pub fn count(&self) -> u32
         ensures { result ≡ self.now.count }
     {
@@ -167,7 +170,7 @@ impl OpenCalls {
         self.log.pending()
     }
 
-    /// The open call of a thread, where it has one.
+    /// The open call of a thread, if it has one.
     pub fn call_of_thread(&self, thread: u8) -> Option<&CallEntry>
         ensures call { option_map (λ c. c.now) result ≡ call_of_thread thread self.now.pending }
         ensures number { IfSome result (λ c. open_call c.now.call self.now.pending ≡ Some c.now) }
@@ -190,7 +193,7 @@ impl Same for OpenCalls {
     }
 }
 
-/// The claims of calls that are answered end.
+/// Ends the claims of calls that are answered.
 fn remove_all(claims: &mut ClaimIndex, answers: &[(u32, Answer)])
     ensures { claims.new ≡ without_answered answers.now claims.old }
 {

@@ -32,22 +32,22 @@ use std::marker::Model;
 /// The number of the event that a step made, from 1.
 #[derive(Clone, Copy, Debug, PartialEq, Eq)]
 pub struct StepDone {
-    pub place: u64,
+    pub number: u64,
 }
 
-/// Why a step was not taken. The part is as before.
+/// Why a step was not taken. The part is unchanged.
 #[derive(Clone, Copy, Debug, PartialEq, Eq)]
 pub enum StepRefused {
     /// The step may not be taken now.
     NotEnabled,
-    /// Memory was wanting.
+    /// Memory ran out.
     NoMemory,
 }
 
-/// One part. Contracts see its state and the list of its events. Whatever steps it took, its journal is a run of its
+/// One part. Contracts see its state and the list of its events. Whatever steps it took, its journal is a run of the
 /// part.
 pub struct Part {
-    /// In memory of its own, so that a part is moved without it.
+    /// Allocated separately, so that a part is moved without it.
     state: Box<State>,
     script: FaultScript,
     journal: Journal,
@@ -65,7 +65,7 @@ impl Model for Part {
 }
 
 impl Drop for Part {
-    /// By hand, so that it is proved once, and not in each function that owns a part.
+    /// Written by hand, so that it is proved once and not in each function that owns a part.
     fn drop(self) {
         let Part {
             state: _,
@@ -84,7 +84,7 @@ impl Part {
         Part::over(alloc, spec, SpareRooms::new(alloc))
     }
 
-    /// As `new`, with the memory for acts that another part left.
+    /// Like `new`, with the memory for acts that another part left.
     pub fn over(alloc: Global, spec: PartSpec, spare: SpareRooms) -> Result<Part, NoMemory>
         requires { IsValidPart spec }
         ensures { IfOk result (λ part. part ≡ opening_run spec) }
@@ -119,8 +119,8 @@ impl Part {
         self.state.can_arrive(frame)
     }
 
-    /// Takes one step, which adds one event to the journal. It answers `NotEnabled` exactly where the step may not be
-    /// taken; a refusal leaves the part as it was.
+    /// Takes one step, which adds one event to the journal. It returns `NotEnabled` exactly if the step may not be
+    /// taken; a refusal leaves the part unchanged.
     pub fn step(&mut self, step: Step) -> Result<StepDone, StepRefused>
         ensures { IsStepped self.old step result self.new }
     {
@@ -134,30 +134,30 @@ impl Part {
             Ok(event) => {
                 self.journal.push_reserved(event);
                 Ok(StepDone {
-                    place: self.journal.len() as u64,
+                    number: self.journal.len() as u64,
                 })
             }
             Err(_) => Err(StepRefused::NoMemory),
         }
     }
 
-    /// The Enter or the Burst of the thread's open call, where it may be taken. A thread without an open call has none,
-    /// thread 16 neither: the shadow's own call is a step of `next_recovery`.
+    /// The Enter or the Burst of the thread's open call, if it may be taken. A thread without an open call has no step,
+    /// nor has thread 16: the shadow's own call is a step of `next_recovery`.
     pub fn next_for(&self, thread: u8) -> Option<Step>
         ensures { result ≡ next_for self.now.state thread }
     {
         self.state.next_for(thread)
     }
 
-    /// The stage, or the burst of the shadow's own call, where it may be taken.
+    /// The stage, or the burst of the shadow's own call, if it may be taken.
     pub fn next_recovery(&self) -> Option<Step>
         ensures { result ≡ next_recovery self.now.state }
     {
         self.state.next_recovery()
     }
 
-    /// `next_recovery`, else `next_for` of the open call with the smallest number that has one. Some wherever a call is
-    /// open.
+    /// `next_recovery`, otherwise `next_for` of the open call with the smallest number that has one. It is never None
+    /// while a call is open.
     pub fn next_any(&self) -> Option<Step>
         ensures next { result ≡ next_any self.now.state }
         ensures enabled { IfSome result (λ step. enabled self.now.state step ≡ true) }
@@ -170,7 +170,8 @@ impl Part {
     pub fn into_journal(self) -> Journal
         ensures journal { result.list ≡ self.journal }
         ensures run { IsRun self.state.spec result.list }
-        ensures facts { IsKeptRun self.state.spec result.list → HasFacts self.state.spec result.list }
+        ensures facts { IsKeptRun self.state.spec result.list
+            → HasFacts self.state.spec result.list }
     {
         let Part {
             state: _,
@@ -180,7 +181,7 @@ impl Part {
         journal
     }
 
-    /// The journal, as `into_journal` gives it, and the memory for acts, for another part.
+    /// The journal, as from `into_journal`, and the memory for acts, for another part.
     pub fn into_journal_and_spare(self) -> (Journal, SpareRooms)
         ensures journal { result.0.list ≡ self.journal }
         ensures run { IsRun self.state.spec result.0.list }
@@ -200,7 +201,7 @@ impl Part {
         &self.state.domain
     }
 
-    /// The bursts so far. Fewer than 2^23, as in every run.
+    /// The bursts so far: fewer than 2^23, as in every run.
     pub fn bursts(&self) -> u32
         ensures count { result ≡ self.now.state.bursts }
         ensures few { result < 2 ^ 23 }
@@ -208,7 +209,7 @@ impl Part {
         self.state.bursts
     }
 
-    /// The events so far. They are a run of the part, which is as they leave it.
+    /// The events so far. They are a run of the part, which is in the state that they lead to.
     pub fn journal(&self) -> &Journal
         ensures journal { result.now.list ≡ self.now.journal }
         ensures run { IsRun self.now.state.spec result.now.list }
@@ -242,7 +243,7 @@ impl Part {
         Ok(self.state.domain.pages().words(start, OBJECT_WORDS, room))
     }
 
-    /// The blocks of the disk; none where the part has another device.
+    /// The blocks of the disk; none if the part has another device.
     pub fn medium(&self) -> &[[Word; BLOCK_WORDS]]
         ensures { result.now ≡ medium_of self.now.state.domain.device }
     {
@@ -263,7 +264,7 @@ impl Part {
         self.state.failures
     }
 
-    /// The number of the thread's open call, which `blocked_by` may be asked about.
+    /// The number of the thread's open call, which may be passed to `blocked_by`.
     pub fn open_of(&self, thread: u8) -> Option<u32>
         ensures number { result ≡ call_number (call_of_thread thread self.now.state.log.pending) }
         ensures open { IfSome result (λ call. IsSome (open_call call self.now.state.log.pending)) }
@@ -274,12 +275,13 @@ impl Part {
         }
     }
 
-    /// The open call with the smallest number that the open call `call` has to wait for; None exactly where there is
-    /// none.
+    /// The number of the first open call that the open call `call` has to wait for; None exactly if it waits for no
+    /// call.
     pub fn blocked_by(&self, call: u32) -> Option<u32>
         requires { IsSome (open_call call self.now.state.log.pending) }
         ensures { IfSome (open_call call self.now.state.log.pending) (λ c.
-            result ≡ call_number (blocked_by self.now.state.spec.class c self.now.state.log.pending)) }
+            result ≡ call_number
+            (blocked_by self.now.state.spec.class c self.now.state.log.pending)) }
     {
         self.state.blocked_by(call)
     }
@@ -291,23 +293,23 @@ impl Part {
         self.state.log.count()
     }
 
-    /// The number of the event that answered the call, from 1; None exactly where the call is open or its number was given
-    /// to none.
+    /// The number of the event that answered the call, from 1; None exactly if the call is open or no call was given
+    /// this number.
     pub fn answered_at(&self, call: u32) -> Option<u64>
-        ensures place { result ≡ answered_at self.now.journal call }
-        ensures told { is_some result ≡ is_answered self.now.state.log call }
+        ensures number { result ≡ answered_at self.now.journal call }
+        ensures reported { is_some result ≡ is_answered self.now.state.log call }
     {
-        place_of_answer(self.journal.as_slice(), call)
+        number_of_answer(self.journal.as_slice(), call)
     }
 }
 
 /// The number, from 1, of the first event that answers the call.
-fn place_of_answer(events: &[Event], call: u32) -> Option<u64>
+fn number_of_answer(events: &[Event], call: u32) -> Option<u64>
     ensures { result ≡ answered_at events.now call }
 {
-    for place in 0..events.len() {
-        if events[place].answer_to(call).is_some() {
-            return Some(place as u64 + 1);
+    for number in 0..events.len() {
+        if events[number].answer_to(call).is_some() {
+            return Some(number as u64 + 1);
         }
     }
     None

@@ -35,7 +35,7 @@ impl State {
         }
     }
 
-    /// The shadow's own call is accepted, and the next stage is due, or it is a failure.
+    /// The shadow's own call is accepted, and the next stage is due; otherwise it is a failure.
     fn reply_to_shadow(&mut self, status: u32) -> Outcome
         requires { self.old.failures < 2 ^ 31 }
         ensures { shadow_replied status self.old ≡ crossed_to self.new result }
@@ -61,7 +61,7 @@ impl State {
         }
     }
 
-    /// Status 0, and for Init the driver is registered.
+    /// Whether the status is 0 and, for Init, the driver is registered.
     fn is_accepted(&self, status: u32, stage: &Stage) -> bool
         requires { stage.now ≡ stage_in self.now.mode }
         ensures { result ≡ is_accepted status self.now }
@@ -69,7 +69,7 @@ impl State {
         status == 0 && (*stage != Stage::Init || self.domain.is_registered())
     }
 
-    /// The shadow's context is free, and the stage behind Init or a replay is due.
+    /// Frees the shadow's context; the stage after Init or a replay is due.
     #[tactic(auto, unfolding(part_defs::specs::Crossing::next_stage))]
     fn next_stage(&mut self)
         ensures { self.new ≡ next_stage self.old }
@@ -84,11 +84,12 @@ impl State {
         self.domain.leave(SHADOW);
     }
 
-    /// The class takes the reply, which answers the call, or it is a failure.
+    /// The class accepts the reply, which answers the call; otherwise it is a failure.
     fn reply_to_call(&mut self, context: u8, status: u32, rooms: &mut Rooms) -> Outcome
         requires crossable { IsCrossable context self.old }
         requires rooms { rooms.old ≡ true }
-        ensures { call_replied status self.old (call_of_thread context self.old.log.pending) ≡ crossed_to self.new result }
+        ensures { call_replied status self.old (call_of_thread context self.old.log.pending)
+            ≡ crossed_to self.new result }
     {
         let end = End::Reply { status };
         let Some(entry) = self.log.call_of_thread(context) else {
@@ -110,11 +111,12 @@ impl State {
 }
 
 impl State {
-    /// The answer to a call whose reply has status 0. A Recv takes the queue's front.
+    /// The answer to a call whose reply has status 0. A Recv takes the queue's first frame.
     fn take_answer(&mut self, context: u8, rooms: &mut Rooms) -> Answer
         requires crossable { IsCrossable context self.old }
         requires rooms { rooms.old ≡ true }
-        ensures answer { IfSome (call_of_thread context self.old.log.pending) (λ c. result ≡ reply_answer c.op c.thread self.old) }
+        ensures answer { IfSome (call_of_thread context self.old.log.pending)
+            (λ c. result ≡ reply_answer c.op c.thread self.old) }
         ensures state { IfSome (call_of_thread context self.old.log.pending) (λ c.
             self.new ≡ record self.old { queue = queue_after c.op self.old.queue }) }
     {
@@ -124,7 +126,7 @@ impl State {
         }
     }
 
-    /// The call is answered: its loan ends, and the record and the holder follow. The queue stays.
+    /// The call is answered: its loan ends, and the record and the holder are updated. The queue is unchanged.
     #[tactic(auto, unfolding(part_defs::specs::Crossing::closes_call, part_defs::specs::Views::CallLogs::acknowledged_call))]
     fn close(&mut self, context: u8)
         requires crossable { IsCrossable context self.old }
@@ -141,7 +143,7 @@ impl State {
     }
 }
 
-/// The answer to a call by its operation. A Recv takes the queue's front.
+/// The answer to a call by its operation. A Recv takes the queue's first frame.
 fn reply_answer(
     entry: &CallEntry,
     domain: &Domain,
@@ -167,7 +169,7 @@ fn reply_answer(
     }
 }
 
-/// An acknowledged Set stands in object 0.
+/// Writes an acknowledged Set to object 0.
 fn note_set(domain: &mut Domain, op: &Op)
     requires { IsWithin op.now }
     ensures { domain.new ≡ record domain.old { state = noted_set op.now domain.old.state } }
@@ -211,7 +213,7 @@ fn shadow_fault(status: u32, stage: &Stage) -> FailCause
     }
 }
 
-/// What becomes of an operation of the class whose driver replies.
+/// How the class handles the driver's reply to one of its operations.
 fn accept(class: Class, op: &Op, status: u32) -> Accept
     requires class { is_of_class class op.now ≡ true }
     requires range { first_of_op op.now + blocks_of_op op.now ≤ 2 ^ 32 }

@@ -8,8 +8,8 @@ use nook_data::memory::{NoMemory, Room};
 use std::alloc::Global;
 use std::marker::Model;
 
-/// Room for what a crossing may copy: the words of an answer, those that a kernel call moves, and a frame. The bursts of a
-/// part hand on to one another what they leave of it. Contracts see whether all of it is there.
+/// Room for what a crossing may copy: the words of an answer, those that a kernel call moves, and a frame. Each burst
+/// of a part passes what it did not use to the next. Contracts see whether all of it is there.
 #[derive(Drop)]
 pub struct Rooms {
     answer: Option<Room<Word>>,
@@ -40,7 +40,7 @@ impl Rooms {
         }
     }
 
-    /// Takes what is not there: room for 128 words of an answer, and for 64 of each other.
+    /// Allocates what is missing: room for 128 words of an answer, and for 64 of each other.
     pub fn fill(&mut self, alloc: Global) -> Result<(), NoMemory>
         ensures { OnOk result (self.new ≡ true) }
     {
@@ -56,7 +56,7 @@ impl Rooms {
         Ok(())
     }
 
-    /// The room for an answer, which is used up.
+    /// Takes the room for an answer.
     pub fn use_answer(&mut self) -> Room<Word>
         requires { self.old ≡ true }
         ensures { MOST_ANSWER_WORDS ≤ result }
@@ -64,7 +64,7 @@ impl Rooms {
         self.answer.take().unwrap()
     }
 
-    /// The room for what a kernel call moves and the one for a frame, which are used up.
+    /// Takes the room for what a kernel call moves and the one for a frame.
     pub fn use_for_service(&mut self) -> (Room<Word>, Room<Word>)
         requires { self.old ≡ true }
         ensures moved { MOST_FRAME_WORDS ≤ result.0 }

@@ -1,4 +1,4 @@
-//! The step Stage: the stage of a boot or of a recovery that is due is done.
+//! The step Stage: the due stage of a boot or of a recovery is done.
 
 ghost use Rattle.std.specs.Prelude.{◌≡◌, ◌≤◌, false, [], length, IfSome};
 ghost use Rattle.std.specs.List.{list_any};
@@ -10,7 +10,7 @@ ghost use Rattle.part_core.specs.Turning.{IsStepOf, stepped_to};
 ghost use Rattle.part_core.specs.Staging.{IsReady};
 
 use crate::state::State;
-use class_table::{init_place, open_place, set_place};
+use class_table::{init_address, open_point, set_position};
 use nook_data::calls::Op;
 use nook_data::limits::SHADOW;
 use nook_data::lists::Items;
@@ -31,7 +31,7 @@ impl State {
         }
     }
 
-    /// The stage that is due is done.
+    /// Does the stage that is due.
     #[tactic(auto, unfolding(part_defs::specs::Stages::stage_stepped))]
     pub fn stage(&mut self) -> Result<Event, NoMemory>
         requires { IfSome (stage_due self.old.mode) (λ stage. IsReady stage self.old) }
@@ -59,7 +59,7 @@ impl State {
         }
     }
 
-    /// Every context ends. Within the limit each open call is answered by the shadow or held; past it each is answered
+    /// Ends every context. Within the limit each open call is answered by the shadow or held; past it each is answered
     /// Gone, and the part is dead.
     #[tactic(auto, unfolding(part_defs::specs::Stages::stops, part_defs::specs::Stages::gives_up_part))]
     fn stop(&mut self) -> Result<Event, NoMemory>
@@ -82,7 +82,7 @@ impl State {
         })
     }
 
-    /// All that the driver held is released, and its loans end.
+    /// Releases everything that the driver held, and ends its loans.
     #[tactic(auto, unfolding(part_defs::specs::Stages::collects))]
     fn collect(&mut self) -> Result<Event, NoMemory>
         ensures { IsStepOf (collects self.old) self.old result self.new }
@@ -96,7 +96,7 @@ impl State {
         })
     }
 
-    /// The device is as it was at first, but for a disk's blocks.
+    /// Resets the device to its initial state, except for a disk's blocks.
     #[tactic(auto, unfolding(part_defs::specs::Stages::resets))]
     fn reset(&mut self) -> Event
         requires { self.old.log.defaults ≡ defaults_of self.old.spec.class }
@@ -123,7 +123,7 @@ impl State {
     fn init(&mut self) -> Event
         ensures { inits self.old ≡ stepped_to self.new result }
     {
-        self.domain.enter_plain(SHADOW, init_place());
+        self.domain.enter_plain(SHADOW, init_address());
         self.staged(Stage::Init)
     }
 
@@ -133,8 +133,8 @@ impl State {
         requires { list_any (is_buffer_of SHADOW) self.old.domain.entries ≡ false }
         ensures { replays_set key value self.old ≡ stepped_to self.new result }
     {
-        let place = set_place(self.spec.class);
-        self.domain.enter(SHADOW, place, &Op::Set { key, value });
+        let index = set_position(self.spec.class);
+        self.domain.enter(SHADOW, index, &Op::Set { key, value });
         self.staged(Stage::ReplaySet { key, value })
     }
 
@@ -143,7 +143,7 @@ impl State {
     fn replay_open(&mut self) -> Event
         ensures { replays_open self.old ≡ stepped_to self.new result }
     {
-        self.domain.enter_plain(SHADOW, open_place());
+        self.domain.enter_plain(SHADOW, open_point());
         self.staged(Stage::ReplayOpen)
     }
 
@@ -155,7 +155,7 @@ impl State {
         self.staged(Stage::Resume)
     }
 
-    /// The mode behind a stage of this mode: the stage that follows is due, and behind the last one applications are served.
+    /// The mode after a stage in this mode: the next stage is due, and after the last one applications are served.
     pub fn mode_after(&self, stage: &Stage, mode: Mode) -> Mode
         ensures { result ≡ mode_after stage.now self.now.log mode }
     {
@@ -177,7 +177,7 @@ impl State {
     }
 }
 
-/// The same way with another stage due. A part that was given up has none left.
+/// The same mode with another stage due. A part that was given up has no stages left.
 fn with_stage(stage: Stage, mode: Mode) -> Mode
     ensures { result ≡ with_stage stage mode }
 {

@@ -1,4 +1,4 @@
-//! What a part is beside its journal.
+//! The state of a part, without its journal.
 
 ghost use Rattle.std.specs.Prelude.{◌≡◌, true, IfOk};
 ghost use Rattle.part_defs.specs.Steps.{enabled, opening, stepped};
@@ -59,7 +59,7 @@ impl Model for State {
 }
 
 impl Drop for State {
-    /// By hand, so that it is proved once, and not in each function that owns a state.
+    /// Written by hand, so that it is proved once and not in each function that owns a state.
     fn drop(self) {
         let State {
             spec: _,
@@ -109,7 +109,7 @@ impl State {
         std::mem::replace(&mut self.spare, SpareRooms::new(self.alloc))
     }
 
-    /// The step is taken. It may be taken, and what holds of every part holds. Where memory is wanting, nothing is
+    /// Takes the step. The step may be taken, and what holds of every part holds. If memory runs out, nothing is
     /// changed.
     #[tactic(auto, unfolding(part_defs::specs::Steps::stepped))]
     pub fn step(&mut self, step: Step, script: &FaultScript) -> Result<Event, NoMemory>

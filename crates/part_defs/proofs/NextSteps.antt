@@ -9,7 +9,7 @@ use Rattle.part_defs.specs.State.{PartState}
 use Rattle.part_defs.specs.Steps.{enabled}
 use Rattle.nook_data.proofs.Options.{same_inside}
 
--- a step that is told is the first, which may be taken, or one of the others
+-- the returned step is the first, which may be taken, or one of the others
 pub if_enabled_case : (P : Step → Type 0) (p : PartState) (first next : Step) (others : Option Step)
     → (enabled p first ≡ true → P first) → (others ≡ Some next → P next) → if_enabled p first others ≡ Some next → P next
 if_enabled_case P p first next others here more h = by_test (enabled p first) refl h
@@ -18,7 +18,7 @@ if_enabled_case P p first next others here more h = by_test (enabled p first) re
     by_test true may e = subst P (same_inside e) (here may)
     by_test false may e = more e
 
--- where none is told, the first may not be taken, and the others tell none
+-- if no step is returned, the first may not be taken, and the others return none
 if_enabled_none : (p : PartState) (first : Step) (others : Option Step) → if_enabled p first others ≡ None → (enabled p first ≡ false) × (others ≡ None)
 if_enabled_none p first others h = by_test (enabled p first) refl h
   where

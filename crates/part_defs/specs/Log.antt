@@ -9,13 +9,13 @@ use Rattle.nook_data.specs.Classes.{conflicts, is_holder}
 use Rattle.nook_data.specs.Frames.{tail_of}
 use Rattle.part_defs.specs.State.{CallLog}
 
--- What the shadow keeps while the driver runs: the open calls, the record and the holder.
+-- What the shadow records while the driver runs: the open calls, the record and the holder.
 
--- a log at first: no call was made, and the record has the defaults
+-- the initial log: no call was made, and the record has the defaults
 unfoldable pub opening_log : List ℕ → CallLog
 opening_log defaults = record { pending = []; count = 0; config = defaults; defaults = defaults; holder = None }
 
--- the call with the number
+-- the call has the number
 abbrev pub is_call : ℕ → CallEntry → Bool
 is_call call c = c.call == call
 
@@ -33,21 +33,21 @@ with_call thread o log =
     let call : CallEntry = record { call = log.count + 1; thread = thread; op = o; inside = false; attempts = 0 } in
     record log { pending = log.pending ++ call ∷ []; count = log.count + 1 }
 
--- a call is invoked and answered at once: only its number is given
+-- a call is invoked and answered at once: it only takes a number
 unfoldable pub with_answered_call : CallLog → CallLog
 with_answered_call log = record log { count = log.count + 1 }
 
--- an open call as it is Held
+-- an open call that becomes Held
 abbrev pub held_call : CallEntry → CallEntry
 held_call c = record c { inside = false }
 
--- the call goes Inside, one attempt more
+-- the call goes Inside, with one attempt more
 unfoldable pub after_entering : ℕ → CallLog → CallLog
 after_entering call log =
     let enter : CallEntry → CallEntry = λ c. record c { inside = true; attempts = c.attempts + 1 } in
     record log { pending = map (λ c. if is_call call c then enter c else c) log.pending }
 
--- the call is open no more
+-- the call is no longer open
 unfoldable pub after_answering : ℕ → CallLog → CallLog
 after_answering call log = record log { pending = filter (λ c. not (is_call call c)) log.pending }
 
@@ -59,7 +59,7 @@ after_acknowledging thread o log = record log {
   holder = elim o [ op.Open ↦ Some thread | op.Close ↦ None | _ ↦ log.holder ];
 }
 
--- the earlier of two open calls blocks the other: its number is smaller and they conflict
+-- the earlier of two open calls blocks the other if its number is smaller and they conflict
 abbrev pub blocks_call : Class → CallEntry → CallEntry → Bool
 blocks_call class c earlier = nat_lt earlier.call c.call && conflicts class c.op earlier.op
 
@@ -67,14 +67,14 @@ blocks_call class c earlier = nat_lt earlier.call c.call && conflicts class c.op
 abbrev pub is_blocked : Class → CallEntry → List CallEntry → Bool
 is_blocked class c pending = list_any (blocks_call class c) pending
 
--- The shadow's table: while the driver is away an operation is answered here, or held.
+-- The shadow's table: while the driver does not serve, an operation is answered here, or held.
 
 -- the answer to a Recv from the kernel's queue
 abbrev pub frame_or_empty : List (List ℕ) → Answer
 frame_or_empty queue = elim queue [ [] ↦ answer.Empty | (frame ∷ rest) ↦ answer.Frame frame ]
 
--- the shadow's answer to an operation of a thread at a stage: the samples of a Play are dropped, if its caller has the
--- stream; None where the call is held
+-- the shadow's answer to an operation of a thread at a stage; None if the call is held. The samples of a Play are
+-- dropped if its caller holds the stream
 unfoldable pub shadow_answer : Op → ℕ → List ℕ → Option ℕ → Stage → List (List ℕ) → Option Answer
 shadow_answer (op.Send frame) thread config holder s queue = Some answer.Done
 shadow_answer op.Recv thread config holder s queue = Some (frame_or_empty queue)
@@ -84,24 +84,24 @@ shadow_answer (op.Play samples) thread config holder s queue =
 shadow_answer (op.Get key) thread config holder s queue = Some (answer.Value (slice_index config key))
 shadow_answer _ thread config holder s queue = None
 
--- the shadow's table has no answer to the operation, whoever asks and whatever is known: it is held
+-- the shadow's table has no answer to the operation, whatever the caller and the state: the call is held
 abbrev pub is_held : Op → Bool
 is_held o = is_none (shadow_answer o 0 [] None stage.Stop [])
 
--- the queue after the shadow's answer: a Recv takes its front
+-- the queue after the shadow's answer: a Recv takes its first frame
 abbrev pub queue_after : Op → List (List ℕ) → List (List ℕ)
 queue_after op.Recv queue = tail_of queue
 queue_after _ queue = queue
 
--- the replay of the first of so many keys from `key` on whose value is no default; after the last key the stream is
--- opened again where a thread has it
+-- the replay of the first key whose value differs from its default, of this many keys from `key` on; after the last
+-- key, the stream is opened again if a thread holds it
 abbrev pub next_replay : ℕ → ℕ → List ℕ → List ℕ → Option ℕ → Stage
 next_replay key zero config defaults holder = elim holder [ None ↦ stage.Resume | Some thread ↦ stage.ReplayOpen ]
 next_replay key (suc more) config defaults holder = if slice_index config key == slice_index defaults key
     then next_replay (key + 1) more config defaults holder
     else stage.ReplaySet key (slice_index config key)
 
--- the stage after Init or a replay; after ReplayOpen it is Resume, and of no other stage is it asked
+-- the stage after Init or a replay: Resume after ReplayOpen; no other stages occur here
 unfoldable pub replay_after : Stage → CallLog → Stage
 replay_after stage.Init log = next_replay 0 4 log.config log.defaults log.holder
 replay_after (stage.ReplaySet key value) log = next_replay (key + 1) (3 - key) log.config log.defaults log.holder
@@ -116,22 +116,22 @@ following stage.Load log = Some stage.Init
 following stage.Resume log = None
 following s log = Some (replay_after s log)
 
--- Stop: each open call is answered by the shadow's table or held, in order of numbers; where the part is given up,
+-- Stop: each open call is answered by the shadow's table or held, in the order of numbers; if the part is given up,
 -- each is answered Gone
 
--- an answer, where there is one, before those of the later calls
+-- puts an answer, if any, before those of the later calls
 abbrev pub with_answer : ℕ → Option Answer → List (ℕ × Answer) → List (ℕ × Answer)
 with_answer call None answers = answers
 with_answer call (Some a) answers = (call, a) ∷ answers
 
--- the answers, each with the queue that the calls before left
+-- the answers; each sees the queue that the earlier calls left
 abbrev pub stop_answers : List CallEntry → List ℕ → Option ℕ → List (List ℕ) → List (ℕ × Answer)
 stop_answers [] config holder queue = []
 stop_answers (c ∷ pending) config holder queue =
     with_answer c.call (shadow_answer c.op c.thread config holder stage.Stop queue)
     (stop_answers pending config holder (queue_after c.op queue))
 
--- the queue that the open calls leave
+-- the queue after the open calls
 abbrev pub stop_queue : List CallEntry → List (List ℕ) → List (List ℕ)
 stop_queue [] queue = queue
 stop_queue (c ∷ pending) queue = stop_queue pending (queue_after c.op queue)
@@ -140,7 +140,7 @@ stop_queue (c ∷ pending) queue = stop_queue pending (queue_after c.op queue)
 abbrev pub gone_answers : ℕ → List CallEntry → List (ℕ × Answer)
 gone_answers failures pending = map (λ c. (c.call, answer.Gone failures)) pending
 
--- the log after Stop within the limit: the calls that the table has no answer to stay open, all Held
+-- the log after Stop within the limit: the calls without an answer in the table stay open, all Held
 abbrev pub held_by_shadow : CallLog → CallLog
 held_by_shadow log = record log { pending = map held_call (filter (λ c. is_held c.op) log.pending) }
 

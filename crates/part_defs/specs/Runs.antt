@@ -13,7 +13,7 @@ pub record PartRun : Type 0 where
   pub state : PartState
   pub journal : List Event
 
--- a part at first: nothing has happened
+-- the initial run: nothing has happened
 abbrev pub opening_run : PartSpec → PartRun
 opening_run spec = record { state = opening spec; journal = [] }
 
@@ -37,45 +37,45 @@ step_of (event.Burst context call burst count end acts answer failure) = step.Bu
 step_of (event.Stage stage answers released) = step.Stage
 step_of (event.Arrive frame kept) = step.Arrive frame
 
--- the events are made by their steps, each of which may be taken, from a part on
+-- from a part on, the events are made by their steps, each of which may be taken
 unfoldable pub IsRunFrom : PartState → List Event → Type 0
 IsRunFrom p [] = Unit {0}
 IsRunFrom p (e ∷ events) =
     (enabled p (step_of e) ≡ true) × (event_of p (step_of e) ≡ e) × IsRunFrom (state_after p (step_of e)) events
 
--- the part that the steps of the events lead to
+-- the part after the steps of the events
 unfoldable pub state_from : PartState → List Event → PartState
 state_from p [] = p
 state_from p (e ∷ events) = state_from (state_after p (step_of e)) events
 
--- a journal is a run of a part
+-- the journal is a run of the part
 abbrev pub IsRun : PartSpec → List Event → Type 0
 IsRun spec journal = IsRunFrom (opening spec) journal
 
--- the part that a journal ends in
+-- the part at the end of a journal
 abbrev pub state_of : PartSpec → List Event → PartState
 state_of spec journal = state_from (opening spec) journal
 
--- What comes next
+-- The next step
 
--- a step where it may be taken, else another
+-- a step if it may be taken, else another
 abbrev pub if_enabled : PartState → Step → Option Step → Option Step
 if_enabled p s others = if enabled p s then Some s else others
 
--- the Enter or Burst of a thread's open call, where it may be taken; none where the thread has no open call
+-- the Enter or Burst of a thread's open call, if it may be taken; None if the thread has no open call
 unfoldable pub next_for : PartState → ℕ → Option Step
 next_for p thread = if is_some (call_of_thread thread p.log.pending)
     then if_enabled p (step.Enter thread) (if_enabled p (step.Burst thread) None) else None
 
--- the stage or the burst of the shadow's context, where it may be taken
+-- the stage or the burst of the shadow's context, if it may be taken
 unfoldable pub next_recovery : PartState → Option Step
 next_recovery p = if_enabled p step.Stage (if_enabled p (step.Burst SHADOW) None)
 
--- the next step of the first of the calls that has one
+-- the next step of the first call that has one
 abbrev pub next_of_calls : PartState → List CallEntry → Option Step
 next_of_calls p [] = None
 next_of_calls p (c ∷ calls) = option_or (next_for p c.thread) (next_of_calls p calls)
 
--- the recovery's step, else that of the open call with the smallest number that has one
+-- the recovery's step, else the step of the open call with the smallest number that has one
 unfoldable pub next_any : PartState → Option Step
 next_any p = option_or (next_recovery p) (next_of_calls p p.log.pending)

@@ -1,7 +1,7 @@
 use Rattle.std.specs.Prelude.{ℕ, List, Option}
 use Rattle.nook_data.specs.Types.{CallEntry, Context, DeviceState, Entry, Mode, PartSpec}
 
--- a driver's domain: where its entries start, the 8,192 words of memory, what it holds in Collect's order,
+-- a driver's domain: the start addresses of its entries, the 8,192 words of memory, what it holds in Collect's order,
 -- the device, and the 17 contexts, each free or Inside
 pub record DomainState : Type 0 where
   pub starts : List ℕ
@@ -10,8 +10,8 @@ pub record DomainState : Type 0 where
   pub device : DeviceState
   pub contexts : List (Option Context)
 
--- what the shadow keeps: the open calls by rising number, how many numbers were given, the configuration last
--- acknowledged, the class's defaults, and the thread that has the stream
+-- what the shadow records: the open calls in the order of their numbers, how many numbers were given, the last
+-- acknowledged configuration, the class's defaults, and the thread that holds the stream
 pub record CallLog : Type 0 where
   pub pending : List CallEntry
   pub count : ℕ
@@ -19,7 +19,7 @@ pub record CallLog : Type 0 where
   pub defaults : List ℕ
   pub holder : Option ℕ
 
--- a part as plain data, but for its journal; `arrived` counts its arrivals, `bursts` its bursts
+-- a part as plain data, without its journal; `arrived` counts its arrivals, `bursts` its bursts
 pub record PartState : Type 0 where
   pub spec : PartSpec
   pub domain : DomainState

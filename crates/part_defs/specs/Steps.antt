@@ -17,9 +17,9 @@ use Rattle.part_defs.specs.Stages.{stage_due, stage_stepped}
 use Rattle.part_defs.specs.State.{PartState}
 use Rattle.machine_defs.specs.BurstFaults.{faults_of_burst}
 
--- The one step of a part.
+-- The steps of a part.
 
--- a part at first: it boots from Load
+-- the initial part: it boots, beginning with Load
 unfoldable pub opening : PartSpec → PartState
 opening spec = record {
   spec = spec;
@@ -34,7 +34,7 @@ opening spec = record {
 
 -- Which steps may be taken
 
--- applications are served by the driver
+-- the driver serves applications
 abbrev pub is_running : Mode → Bool
 is_running m = elim m [ mode.Running ↦ true | _ ↦ false ]
 
@@ -42,7 +42,7 @@ is_running m = elim m [ mode.Running ↦ true | _ ↦ false ]
 abbrev pub is_driven : PartState → Bool
 is_driven p = is_some (context_of SHADOW p.domain.contexts)
 
--- a held call that no open call with a smaller number conflicts with
+-- a held call that does not conflict with an open call with a smaller number
 abbrev pub is_ready : PartState → Option CallEntry → Bool
 is_ready p o = elim o [ None ↦ false | Some c ↦ not c.inside && not (is_blocked p.spec.class c p.log.pending) ]
 
@@ -50,7 +50,7 @@ is_ready p o = elim o [ None ↦ false | Some c ↦ not c.inside && not (is_bloc
 abbrev pub is_inside : Option CallEntry → Bool
 is_inside o = elim o [ None ↦ false | Some c ↦ c.inside ]
 
--- one of 16 threads that has no open call may invoke, up to 100,000 calls
+-- a thread without an open call may invoke: one of 16 threads, up to 100,000 calls
 abbrev pub can_invoke : PartState → ℕ → Bool
 can_invoke p thread =
     nat_lt thread MOST_THREADS && is_none (call_of_thread thread p.log.pending) && nat_lt p.log.count MOST_CALLS
@@ -59,7 +59,7 @@ can_invoke p thread =
 abbrev pub can_enter : PartState → ℕ → Bool
 can_enter p thread = is_running p.mode && is_ready p (call_of_thread thread p.log.pending)
 
--- the shadow may run where a stage drives the driver, and a call while it is Inside
+-- the shadow may run if its own call is Inside, and a thread if the driver serves and its call is Inside
 abbrev pub can_burst : PartState → ℕ → Bool
 can_burst p context = if context == SHADOW then is_driven p
     else is_running p.mode && is_inside (call_of_thread context p.log.pending)
@@ -89,7 +89,7 @@ abbrev pub served_number : ℕ → PartState → ℕ
 served_number context p =
     if context == SHADOW then 0 else elim (call_of_thread context p.log.pending) [ None ↦ 0 | Some c ↦ c.call ]
 
--- a burst of a context with the faults of its number, then what its crossing asks, with the event of both
+-- a burst of a context with the faults for its number, followed by what its crossing requests, with the event of both
 unfoldable pub burst_stepped : ℕ → PartState → Stepped
 burst_stepped context p =
     let b : DomainBurst = domain_burst context (faults_of_burst (p.bursts + 1) p.spec.faults) p.domain in
@@ -99,7 +99,7 @@ burst_stepped context p =
       event = event.Burst context (served_number context p) (p.bursts + 1) b.count c.end b.acts c.answer c.failure;
     }
 
--- a frame arrives: the ring takes it, or loses it where it is full
+-- a frame arrives: the ring takes it, or loses it if the ring is full
 unfoldable pub after_arrival : List ℕ → PartState → Stepped
 after_arrival frame p = record {
   state = record p {

@@ -16,7 +16,7 @@ use Rattle.part_defs.specs.Log.{queue_after, frame_or_empty}
 use Rattle.promise_defs.proofs.PromiseCases.{closes}
 use Rattle.part_defs.proofs.PartCases.{config_after, holder_after}
 use Rattle.nook_data.specs.Frames.{is_empty, tail_of}
-use Rattle.nook_data.specs.Places.{at_number}
+use Rattle.nook_data.specs.Numbered.{at_number}
 use Rattle.promise_defs.specs.Trace.{kept_blocks}
 use Rattle.part_laws.specs.Facts.{At, CallFacts, DiskFacts, HolderFits, IsSetting, KeyIn, Sub, Facts}
 use Rattle.part_laws.specs.Moves.{close_core, with_core}
@@ -28,11 +28,11 @@ use Rattle.part_laws.proofs.Closing.{ClosedFacts, Comes, frame_comes}
 use Rattle.part_laws.proofs.Disks.{held_words, same_blocks, disk_plain, disk_put, read_same}
 use Rattle.part_laws.proofs.Keeping.{no_conflict}
 use Rattle.part_laws.proofs.OfClass.{recv_class, stream_class}
-use Rattle.part_laws.proofs.Places.{same_at, get_map}
+use Rattle.part_laws.proofs.Indices.{same_at, get_map}
 use Rattle.part_laws.proofs.Subs.{Taken, sub_front}
-use Rattle.part_laws.proofs.Watching.{wanted_met}
+use Rattle.part_laws.proofs.Watching.{required_met}
 
--- A reply that is accepted, by operation: the never-failing device answers the same.
+-- A reply that is accepted, by operation: the never-failing device gives the same answer.
 
 abbrev pub with_op : Op → Call → Call
 with_op o c = record c { core = record c.core { op = o } }
@@ -47,7 +47,7 @@ pub record Replies (v : View) (b : Past) (k : ℕ) (c : Call) : Type 0 where
   pub at : At b.calls k c
   pub inside : c.core.inside ≡ true
 
--- what is to be shown of its answer
+-- what must be shown of its answer
 pub record Accepted (v : View) (b : Past) (k : ℕ) (c : Call) (a : Answer) : Type 0 where
   pub plain : List (List ℕ)
   pub frames : List (List ℕ)
@@ -70,9 +70,9 @@ module _ (v : View) (b : Past) (k : ℕ) (c : Call) (r : Replies v b k c) where
   pub checks : static_check v.class v.size c.core.op ≡ None
   checks = call_facts.checked (call_facts.opened r.inside)
 
-  -- no Set is Inside beside it, nor is it one
+  -- no other Set is Inside, and this call is no Set
   no_set : is_set c.core.op ≡ false → (key value : ℕ) → IsSetting (cores b) key value → ⊥
-  no_set n key value s = set_alone v b r.facts s.place k s.call c.core s.at core_at s.inside r.inside (ap is_set s.sets)
+  no_set n key value s = set_alone v b r.facts s.index k s.call c.core s.at core_at s.inside r.inside (ap is_set s.sets)
       (λ e. absurd cc (n, ap (λ x. is_set x.op) (sym (same_at (cores b) k s.call c.core (subst (λ p. At (cores b) p s.call) e s.at) core_at)) ∙ ap is_set s.sets))
 
   -- the registers are the record
@@ -84,7 +84,7 @@ module _ (v : View) (b : Past) (k : ℕ) (c : Call) (r : Replies v b k c) where
       by_fact (inl e) = e
       by_fact (inr s) = absurd (no_set n key (slice_index v.dev.registers key) s)
 
-  -- beside it no other call of which one conflicts either way is Inside
+  -- no other call is Inside that conflicts with this one in both orders
   no_other : (j : ℕ) (d : Core) → At (cores b) j d → (j ≡ k → ⊥) → d.inside ≡ true → conflicts v.class d.op c.core.op ≡ true
       → conflicts v.class c.core.op d.op ≡ true → ⊥
   no_other j d h n i x y = by_order (no_conflict v.class v.size (cores b) r.facts.calls j k d c.core h core_at n
@@ -97,7 +97,7 @@ module _ (v : View) (b : Past) (k : ℕ) (c : Call) (r : Replies v b k c) where
       by_order (inl e) = absurd cc (e, y)
       by_order (inr e) = absurd cc (e, x)
 
-  -- the facts behind an answer that changes at most the medium
+  -- the facts after an answer that changes at most the medium
   plain_facts : is_set c.core.op ≡ false → (plain : List (List ℕ)) → DiskFacts (set (cores b) k (close_core c.core)) plain v.dev.medium
       → ClosedFacts v b k (closed_call c) v.config v.holder v.queue plain b.frames
   plain_facts n plain disk = record {
@@ -109,7 +109,7 @@ module _ (v : View) (b : Past) (k : ℕ) (c : Call) (r : Replies v b k c) where
     handed_up = λ j d h ne i u t. r.facts.handed_up r.running j d h i u t;
   }
 
-  -- the medium stays as it is
+  -- the medium does not change
   disk_stays : is_write c.core.op ≡ false → DiskFacts (set (cores b) k (close_core c.core)) b.blocks v.dev.medium
   disk_stays n = disk_plain (cores b) b.blocks v.dev.medium k c.core (close_core c.core) core_at n refl r.facts.disk
 
@@ -124,7 +124,7 @@ read_ok v b k c first count words r h = record {
   frames = b.frames;
   facts = plain_facts v b k (with_op (Read first count) c) r refl b.blocks (disk_stays v b k (with_op (Read first count) c) r refl);
   comes = record {
-    may = ap (λ l. bytes_eq words l) (sym same) ∙ (wanted_met (bytes_eq words (get_blocks v.dev.medium first count)) 4 None h).0;
+    may = ap (λ l. bytes_eq words l) (sym same) ∙ (required_met (bytes_eq words (get_blocks v.dev.medium first count)) 4 None h).0;
     after = refl;
   };
   allowed = λ w e g. refl;
@@ -146,7 +146,7 @@ read_error_ok v b k c first count block r o h = record {
   frames = b.frames;
   facts = plain_facts v b k (with_op (Read first count) c) r refl b.blocks (disk_stays v b k (with_op (Read first count) c) r refl);
   comes = record { may = o; after = refl };
-  allowed = λ w e g. ap (has_failed block) e ∙ (wanted_met (has_block block c.failed) 15 None h).0;
+  allowed = λ w e g. ap (has_failed block) e ∙ (required_met (has_block block c.failed) 15 None h).0;
 }
 
 pub write_ok : (v : View) (b : Past) (k : ℕ) (c : Call) (first : ℕ) (words : List ℕ) → Replies v b k (with_op (Write first words) c)
@@ -160,7 +160,7 @@ write_ok v b k c first words r h = record {
       (disk_put (cores b) b.blocks v.dev.medium k (with_op (Write first words) c).core (close_core (with_op (Write first words) c).core)
       (covers (Write first words)) (core_at v b k (with_op (Write first words) c) r) refl r.facts.disk
       (λ n o l. held_words 0 (Write first words) v.dev.medium n
-      (wanted_met (holds_from 0 (Write first words) v.dev.medium) 3 None h).0 l (ap (covers (Write first words)) (omega arith) ∙ o)
+      (required_met (holds_from 0 (Write first words) v.dev.medium) 3 None h).0 l (ap (covers (Write first words)) (omega arith) ∙ o)
       ∙ ap (words_for (Write first words)) (omega arith))
       (λ n o s. o));
   comes = record { may = refl; after = refl };
@@ -183,7 +183,7 @@ write_error_ok v b k c first words block r o h = record {
       (and_parts (covers (Write first words) n) (has_block n c.core.stored) t).1)
       (λ n u s. and_from (covers (Write first words) n) (has_block n c.core.stored) u s));
   comes = record { may = o; after = refl };
-  allowed = λ w e g. ap (has_failed block) e ∙ (wanted_met (has_block block c.failed) 15 None h).0;
+  allowed = λ w e g. ap (has_failed block) e ∙ (required_met (has_block block c.failed) 15 None h).0;
 }
   where
     chosen : ℕ → Bool
@@ -203,7 +203,7 @@ send_ok v b k c frame r h = record {
   frames = b.frames;
   facts = plain_facts v b k (with_op (Send frame) c) r refl b.blocks (disk_stays v b k (with_op (Send frame) c) r refl);
   comes = record { may = refl; after = refl };
-  allowed = λ w e g. ap is_served_found e ∙ (wanted_met (nat_lt 0 c.sent) 7 None h).0;
+  allowed = λ w e g. ap is_served_found e ∙ (required_met (nat_lt 0 c.sent) 7 None h).0;
 }
 
 pub recvs_conflict : (class : Class) (x y : Op) → class ≡ Net → is_recv x ≡ true → is_recv y ≡ true → conflicts class x y ≡ true
@@ -234,7 +234,7 @@ recv_ok v b k c queue q r h = by_queue queue q
     }
 
     met : (is_empty v.dev.ring || c.handed) ≡ true
-    met = (wanted_met (is_empty v.dev.ring || c.handed) 9 None h).0
+    met = (required_met (is_empty v.dev.ring || c.handed) 9 None h).0
 
     by_queue : (queue : List (List ℕ)) → v.queue ≡ queue → Accepted v b k (with_op Recv c) (frame_or_empty queue)
     by_queue [] q = record {
@@ -326,7 +326,7 @@ play_ok v b k c samples r h = record {
     may = holder_is v.holder c.core.thread (r.facts.holders k (with_op (Play samples) c).core (core_at v b k (with_op (Play samples) c) r) r.inside);
     after = refl;
   };
-  allowed = λ w e g. ap is_served_found e ∙ (wanted_met (eqb c.played (length samples)) 11 None h).0;
+  allowed = λ w e g. ap is_served_found e ∙ (required_met (eqb c.played (length samples)) 11 None h).0;
 }
 
 pub close_ok : (v : View) (b : Past) (k : ℕ) (c : Call) → Replies v b k (with_op Close c) → Accepted v b k (with_op Close c) answered.Done
@@ -354,7 +354,7 @@ get_ok v b k c key word r h = record {
   facts = plain_facts v b k (with_op (Get key) c) r refl b.blocks (disk_stays v b k (with_op (Get key) c) r refl);
   comes = record {
     may = ap (λ x. eqb x word) (sym (register_is v b k (with_op (Get key) c) r refl key))
-        ∙ (wanted_met (eqb (slice_index v.dev.registers key) word) 14 None h).0;
+        ∙ (required_met (eqb (slice_index v.dev.registers key) word) 14 None h).0;
     after = refl;
   };
   allowed = λ w e g. refl;
@@ -392,10 +392,10 @@ set_ok v b k c key value r h = record {
     other : (j : ℕ) → (j ≡ key → ⊥) → (slice_index v.dev.registers j ≡ slice_index v.config j) ⊎ IsSetting (cores b) j (slice_index v.dev.registers j)
         → slice_index v.dev.registers j ≡ slice_index v.config j
     other j n (inl e) = e
-    other j n (inr s) = by_place (cases_eq k s.place)
+    other j n (inr s) = by_position (cases_eq k s.index)
       where
-        by_place : (k ≡ s.place) ⊎ (k ≡ s.place → ⊥) → slice_index v.dev.registers j ≡ slice_index v.config j
-        by_place (inl e) = absurd (n (key_of j key (slice_index v.dev.registers j) value
+        by_position : (k ≡ s.index) ⊎ (k ≡ s.index → ⊥) → slice_index v.dev.registers j ≡ slice_index v.config j
+        by_position (inl e) = absurd (n (key_of j key (slice_index v.dev.registers j) value
             (sym s.sets ∙ ap (λ x. x.op) (same_at (cores b) k s.call (with_op (Set key value) c).core (subst (λ p. At (cores b) p s.call) (sym e) s.at) at))))
           where
             key_of : (j key w value : ℕ) → Set j w ≡ Set key value → j ≡ key
@@ -404,11 +404,11 @@ set_ok v b k c key value r h = record {
                 first_key : Op → ℕ
                 first_key (Set key value) = key
                 first_key o = 0
-        by_place (inr e) = absurd (set_alone v b r.facts k s.place (with_op (Set key value) c).core s.call at s.at r.inside s.inside refl e)
+        by_position (inr e) = absurd (set_alone v b r.facts k s.index (with_op (Set key value) c).core s.call at s.at r.inside s.inside refl e)
 
     by_key : (j : ℕ) → (j ≡ key) ⊎ (j ≡ key → ⊥) → slice_index v.dev.registers j ≡ slice_index (slice_set v.config key value) j
     by_key j (inl e) = ap (slice_index v.dev.registers) e
-        ∙ eqb-true (slice_index v.dev.registers key) value (wanted_met (eqb (slice_index v.dev.registers key) value) 13 None h).0
+        ∙ eqb-true (slice_index v.dev.registers key) value (required_met (eqb (slice_index v.dev.registers key) value) 13 None h).0
         ∙ sym (ap (slice_index (slice_set v.config key value)) e
         ∙ get_or-set_same v.config key value 0 (subst (λ n. key < n) (sym r.facts.keys) (small (checks v b k (with_op (Set key value) c) r))))
     by_key j (inr n) = other j n (subst (λ m. KeyIn (cores b) v.config v.defaults v.driven m j (slice_index v.dev.registers j)) r.running (r.facts.registers j))

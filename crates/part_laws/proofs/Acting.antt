@@ -18,16 +18,16 @@ use Rattle.part_laws.specs.Facts.{At, CallFacts, CallsFacts, IsStored, DiskFacts
 use Rattle.part_laws.specs.Moves.{store_core}
 use Rattle.part_laws.specs.Views.{View, Past, Core, Call, core_of, cores, open_from, stage_of, replay_of}
 use Rattle.part_laws.proofs.Keeping.{no_conflict, Less, AllLess}
-use Rattle.part_laws.proofs.Places.{split, same_at, get_map, from_map, map_join, length_map}
+use Rattle.part_laws.proofs.Indices.{split, same_at, get_map, from_map, map_join, length_map}
 
--- The facts through the acts of a burst, one field at a time.
+-- The facts after the acts of a burst, one field at a time.
 
 -- ---- builders
 
 abbrev pub with_dev : Dev → View → View
 with_dev d v = record v { dev = d }
 
--- the device alone changes
+-- only the device changes
 pub redev : (v : View) (b : Past) (d : Dev) → Facts v b → d.linked ≡ v.dev.linked → length d.registers ≡ length v.dev.registers → DiskFacts (cores b) b.blocks d.medium
     → ((key : ℕ) → KeyIn (cores b) v.config v.defaults v.driven v.mode key (slice_index d.registers key))
     → Sub (v.queue ++ (b.rest ++ d.ring)) b.frames → Facts (with_dev d v) b
@@ -50,20 +50,20 @@ redev v b d f linked width disk registers chain = record {
   driving = f.driving;
 }
 
--- what of a call the facts speak of
-abbrev pub told_of : Call → Core × Bool
-told_of c = (c.core, c.handed)
+-- the parts of a call that concern the facts
+abbrev pub reported_of : Call → Core × Bool
+reported_of c = (c.core, c.handed)
 
-cores_told : (calls calls' : List Call) → map told_of calls' ≡ map told_of calls → map core_of calls' ≡ map core_of calls
-cores_told calls calls' e =
-    sym (map_join (λ (p : Core × Bool). p.0) told_of core_of (λ c. refl) calls') ∙ ap (map (λ (p : Core × Bool). p.0)) e
-    ∙ map_join (λ (p : Core × Bool). p.0) told_of core_of (λ c. refl) calls
+cores_reported : (calls calls' : List Call) → map reported_of calls' ≡ map reported_of calls → map core_of calls' ≡ map core_of calls
+cores_reported calls calls' e =
+    sym (map_join (λ (p : Core × Bool). p.0) reported_of core_of (λ c. refl) calls') ∙ ap (map (λ (p : Core × Bool). p.0)) e
+    ∙ map_join (λ (p : Core × Bool). p.0) reported_of core_of (λ c. refl) calls
 
-count_told : (calls calls' : List Call) → map told_of calls' ≡ map told_of calls → length calls' ≡ length calls
-count_told calls calls' e = sym (length_map told_of calls') ∙ ap length e ∙ length_map told_of calls
+count_reported : (calls calls' : List Call) → map reported_of calls' ≡ map reported_of calls → length calls' ≡ length calls
+count_reported calls calls' e = sym (length_map reported_of calls') ∙ ap length e ∙ length_map reported_of calls
 
--- only what the facts do not speak of changes in the calls
-pub recalled : (v : View) (b : Past) (calls' : List Call) → map told_of calls' ≡ map told_of b.calls → Facts v b
+-- the calls change only in what does not concern the facts
+pub recalled : (v : View) (b : Past) (calls' : List Call) → map reported_of calls' ≡ map reported_of b.calls → Facts v b
     → Facts v (record b { calls = calls' })
 recalled v b calls' e f = record {
   linked = f.linked;
@@ -71,7 +71,7 @@ recalled v b calls' e f = record {
   keys = f.keys;
   defaults = f.defaults;
   pending = f.pending ∙ ap (open_from 1) (sym same);
-  count = f.count ∙ sym (count_told b.calls calls' e);
+  count = f.count ∙ sym (count_reported b.calls calls' e);
   calls = subst (λ cs. CallsFacts v.class v.size cs) (sym same) f.calls;
   disk = subst (λ cs. DiskFacts cs b.blocks v.dev.medium) (sym same) f.disk;
   holders = λ k c h. f.holders k c (subst (λ cs. At cs k c) same h);
@@ -79,20 +79,20 @@ recalled v b calls' e f = record {
   replay = f.replay;
   booting = f.booting;
   chain = f.chain;
-  handed_up = λ m k c h i r u. by_call m k c i r u (from_map told_of b.calls k (told_of c) (subst (λ l. At l k (told_of c)) e (get_map told_of calls' k c h)));
+  handed_up = λ m k c h i r u. by_call m k c i r u (from_map reported_of b.calls k (reported_of c) (subst (λ l. At l k (reported_of c)) e (get_map reported_of calls' k c h)));
   insides = λ k c h. f.insides k c (subst (λ cs. At cs k c) same h);
   driving = f.driving;
 }
   where
     same : map core_of calls' ≡ cores b
-    same = cores_told b.calls calls' e
+    same = cores_reported b.calls calls' e
 
     by_call : v.mode ≡ mode.Running → (k : ℕ) (c : Call) → c.core.inside ≡ true → is_recv c.core.op ≡ true → c.handed ≡ true
-        → (d : Call) × At b.calls k d × (told_of c ≡ told_of d) → is_empty v.queue ≡ false
+        → (d : Call) × At b.calls k d × (reported_of c ≡ reported_of d) → is_empty v.queue ≡ false
     by_call m k c i r u (d, h, s) = f.handed_up m k d h
         (ap (λ (p : Core × Bool). p.0.inside) (sym s) ∙ i) (ap (λ (p : Core × Bool). is_recv p.0.op) (sym s) ∙ r) (ap (λ (p : Core × Bool). p.1) (sym s) ∙ u)
 
--- ---- calls are Inside in Running alone while something runs
+-- ---- while something runs, calls are Inside only in Running
 
 abbrev pub Active : View → Type 0
 Active v = (v.mode ≡ mode.Running) ⊎ (v.driven ≡ true)
@@ -130,7 +130,7 @@ set_conflicts_left class (Get k) b h = absurd cc
 pub set_conflicts_right : (class : Class) (a b : Op) → is_set b ≡ true → conflicts class a b ≡ true
 set_conflicts_right class a b h = or_left (is_set a || is_set b) _ (or_right (is_set a) (is_set b) h)
 
--- two calls that were Inside, one of them a Set, are one
+-- two calls that were Inside, one of which is a Set, are the same
 pub set_alone : (v : View) (b : Past) → Facts v b → (j k : ℕ) (c d : Core) → At (cores b) j c → At (cores b) k d
     → c.inside ≡ true → d.inside ≡ true → is_set c.op ≡ true → (j ≡ k → ⊥) → ⊥
 set_alone v b f j k c d hc hd ic id s n = by_order
@@ -146,7 +146,7 @@ set_alone v b f j k c d hc hd ic id s n = by_order
     by_order (inl e) = absurd cc (set_conflicts_right v.class d.op c.op s, e)
     by_order (inr e) = absurd cc (set_conflicts_left v.class c.op d.op s, e)
 
--- an operation past the static check is of its class
+-- an operation that passed the static check fits its class
 pub write_class : (class : Class) (size : ℕ) (o : Op) → is_write o ≡ true → static_check class size o ≡ None → class ≡ Block
 write_class Block size o w h = refl
 write_class Net size (Write first words) w h = absurd cc
@@ -168,7 +168,7 @@ write_class Sound size (Get k) w h = absurd cc
 write_class Net size (Set k v) w h = absurd cc
 write_class Sound size (Set k v) w h = absurd cc
 
--- two operations that cover a block, one of them a Write
+-- two operations that cover a block, one of which is a Write
 pub overlapping : (a b : Op) (n : ℕ) → covers a n ≡ true → covers b n ≡ true → share_block a b ≡ true
 overlapping a b n h i =
     and_from (nat_lt (first_of_op a) (first_of_op b + blocks_of_op b)) (nat_lt (first_of_op b) (first_of_op a + blocks_of_op a))
@@ -188,7 +188,7 @@ write_conflicts class a b n e w h i =
     ∙ or_right (is_set a || is_set b) ((is_write a || is_write b) && share_block a b)
     (and_from (is_write a || is_write b) (share_block a b) w (overlapping a b n h i))
 
--- two open calls that were Inside, of which one is a Write, do not cover one block
+-- two open calls that were Inside, one of which is a Write, do not cover the same block
 pub write_alone : (class : Class) (size : ℕ) (cs : List Core) → CallsFacts class size cs → (j k : ℕ) (c d : Core) → At cs j c → At cs k d
     → c.waits ≡ true → d.waits ≡ true → 0 < c.attempts → 0 < d.attempts → is_write c.op ≡ true
     → (n : ℕ) → covers c.op n ≡ true → covers d.op n ≡ true → (j ≡ k → ⊥) → ⊥
@@ -239,7 +239,7 @@ store_from n m c h = split (nat_lt 0 c.attempts && covers c.op n)
     new t (inl e) = inr (eqb-true n m e, ltb-true 0 c.attempts (and_parts (nat_lt 0 c.attempts) (covers c.op n) t).0, (and_parts (nat_lt 0 c.attempts) (covers c.op n) t).1)
     new t (inr e) = inl e
 
--- the medium after a store by a Write that is Inside, with whose words all such Writes agree
+-- the medium after a store by a Write that is Inside, if all such Writes agree on its words
 pub store_disk : (class : Class) (size : ℕ) (cs : List Core) (plain medium : List (List ℕ)) (n : ℕ) (words : List ℕ)
     → CallsFacts class size cs → DiskFacts cs plain medium → n < length medium
     → (p : ℕ) (c : Core) → At cs p c → c.inside ≡ true → is_write c.op ≡ true → covers c.op n ≡ true → words ≡ words_for c.op n
@@ -263,7 +263,7 @@ store_disk class size cs plain medium n words calls f l p c h i w o ws = record 
     by_block : (m : ℕ) → (m ≡ n) ⊎ (m ≡ n → ⊥) → (slice_index_or medium m [] ≡ slice_index_or plain m []) ⊎ IsStored cs m (slice_index_or medium m [])
         → (slice_index_or (slice_set medium n words) m [] ≡ slice_index_or plain m []) ⊎ IsStored (map (store_core n) cs) m (slice_index_or (slice_set medium n words) m [])
     by_block m (inl e) g = inr (record {
-      place = p;
+      index = p;
       call = store_core n c;
       at = get_map (store_core n) cs p c h;
       waits = fc.opened i;
@@ -275,9 +275,9 @@ store_disk class size cs plain medium n words calls f l p c h i w o ws = record 
     })
     by_block m (inr e) (inl g) = inl (old m e ∙ g)
     by_block m (inr e) (inr g) = inr (record {
-      place = g.place;
+      index = g.index;
       call = store_core n g.call;
-      at = get_map (store_core n) cs g.place g.call g.at;
+      at = get_map (store_core n) cs g.index g.call g.at;
       waits = g.waits;
       entered = g.entered;
       writes = g.writes;
@@ -288,7 +288,7 @@ store_disk class size cs plain medium n words calls f l p c h i w o ws = record 
 
     by_call : (k : ℕ) (d : Core) (m : ℕ) → d.waits ≡ true → is_write d.op ≡ true → has_block m d.stored ≡ true → (m ≡ n) ⊎ (m ≡ n → ⊥)
         → (x : Core) × At cs k x × (d ≡ store_core n x) → slice_index_or (slice_set medium n words) m [] ≡ words_for d.op m
-    by_call k d m wd id b (inl e) (x, hx, ex) = new m e ∙ ws ∙ by_place (cases_eq p k) ∙ ap (words_for d.op) (sym e)
+    by_call k d m wd id b (inl e) (x, hx, ex) = new m e ∙ ws ∙ by_position (cases_eq p k) ∙ ap (words_for d.op) (sym e)
       where
         wx : x.waits ≡ true
         wx = ap (λ y. y.waits) (sym ex) ∙ wd
@@ -303,9 +303,9 @@ store_disk class size cs plain medium n words calls f l p c h i w o ws = record 
         cx (inl s) = ((f.covered k x m hx wx ix s).0, ap (covers x.op) (sym e) ∙ (f.covered k x m hx wx ix s).1)
         cx (inr s) = (s.1, s.2)
 
-        by_place : (p ≡ k) ⊎ (p ≡ k → ⊥) → words_for c.op n ≡ words_for d.op n
-        by_place (inl s) = ap (λ y. words_for y.op n) (same_at cs k c x (subst (λ q. At cs q c) s h) hx) ∙ ap (λ y. words_for y.op n) (sym ex)
-        by_place (inr s) = absurd (write_alone class size cs calls p k c x h hx (fc.opened i) wx (fc.entered i) (cx sx).0 w n o (cx sx).1 s)
+        by_position : (p ≡ k) ⊎ (p ≡ k → ⊥) → words_for c.op n ≡ words_for d.op n
+        by_position (inl s) = ap (λ y. words_for y.op n) (same_at cs k c x (subst (λ q. At cs q c) s h) hx) ∙ ap (λ y. words_for y.op n) (sym ex)
+        by_position (inr s) = absurd (write_alone class size cs calls p k c x h hx (fc.opened i) wx (fc.entered i) (cx sx).0 w n o (cx sx).1 s)
     by_call k d m wd id b (inr e) (x, hx, ex) = old m e ∙ by_store sx ∙ ap (λ y. words_for y.op m) (sym ex)
       where
         wx : x.waits ≡ true
@@ -344,13 +344,13 @@ replayed_key config defaults k v key value h = (
     same = eqb-true k key (and_parts (eqb k key) (eqb v value) h).0
 
 pub word_set : (xs : List ℕ) (k j v : ℕ) → (slice_index (slice_set xs k v) j ≡ slice_index xs j) ⊎ ((j ≡ k) × (slice_index (slice_set xs k v) j ≡ v))
-word_set xs k j v = by_place (cases_eq j k) (cases_lt k (length xs))
+word_set xs k j v = by_position (cases_eq j k) (cases_lt k (length xs))
   where
-    by_place : (j ≡ k) ⊎ (j ≡ k → ⊥) → (k < length xs) ⊎ (length xs ≤ k)
+    by_position : (j ≡ k) ⊎ (j ≡ k → ⊥) → (k < length xs) ⊎ (length xs ≤ k)
         → (slice_index (slice_set xs k v) j ≡ slice_index xs j) ⊎ ((j ≡ k) × (slice_index (slice_set xs k v) j ≡ v))
-    by_place (inl e) (inl l) = inr (e, ap (slice_index (slice_set xs k v)) e ∙ get_or-set_same xs k v 0 l)
-    by_place (inl e) (inr l) = inl (ap (λ ys. slice_index ys j) (set_past xs k v l))
-    by_place (inr e) l = inl (get_or-set_other xs k j v 0 e)
+    by_position (inl e) (inl l) = inr (e, ap (slice_index (slice_set xs k v)) e ∙ get_or-set_same xs k v 0 l)
+    by_position (inl e) (inr l) = inl (ap (λ ys. slice_index ys j) (set_past xs k v l))
+    by_position (inr e) l = inl (get_or-set_other xs k j v 0 e)
 
 -- a register takes the value of a ReplaySet that is Inside
 pub replay_key : (cs : List Core) (config defaults : List ℕ) (driven : Bool) (m : Mode) (key value : ℕ)

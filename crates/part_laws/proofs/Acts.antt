@@ -10,11 +10,11 @@ use Rattle.nook_data.specs.declared.calls.Op.{Op}
 use Rattle.nook_data.specs.declared.calls.Op.TheVariants.{Read, Write, Send, Recv, Open, Play, Close, Get, Set}
 use Rattle.promise_defs.specs.Blocks.{words_for}
 use Rattle.nook_data.specs.Classes.{is_set, is_recv, is_holder, is_next, is_play, is_write, covers, same_class, sends}
-use Rattle.part_laws.specs.Watch.{Watched, sees_act, wanted, is_covered, is_agreed, is_own_frame, is_first_frame, is_next_of, is_playing, may_register, is_setting, sent_once, played_one, failed_at}
+use Rattle.part_laws.specs.Watch.{Watched, sees_act, required, is_covered, is_agreed, is_own_frame, is_first_frame, is_next_of, is_playing, may_register, is_setting, sent_once, played_one, failed_at}
 use Rattle.promise_defs.specs.Ideal.{Ideal, Opened, ran, shows, when, may_wire, play_of, may_sound}
 use Rattle.promise_defs.proofs.PromiseCases.{plays_for}
 use Rattle.promise_defs.proofs.PromiseChanges.{wired_once, played_once, store_track}
-use Rattle.nook_data.specs.Places.{at_number, change_number, number_where}
+use Rattle.nook_data.specs.Numbered.{at_number, change_number, number_where}
 use Rattle.promise_defs.specs.Trace.{Visible, wire, sample, tracks_after_act}
 use Rattle.promise_defs.specs.Contract.{is_replay_of}
 use Rattle.nook_data.specs.Frames.{is_empty}
@@ -24,21 +24,21 @@ use Rattle.part_laws.specs.ActsOn.{act_on, Fits}
 use Rattle.part_laws.specs.Facts.{At, CallFacts, CallsFacts, DiskFacts, IsSetting, KeyIn, HolderFits, Sub, Facts}
 use Rattle.part_laws.specs.Moves.{store_core, with_core, send_call, play_call, fail_call}
 use Rattle.part_laws.specs.Views.{View, Past, Core, Call, core_of, cores, entry_of, keep_waiting, open_from, stage_of, replay_of, as_watched, as_opened, as_track, watch_of, ideal_of, tracks_of}
-use Rattle.part_laws.proofs.Acting.{with_dev, redev, told_of, recalled, Active, running_inside, set_alone, store_less, store_disk, word_set, replay_key}
+use Rattle.part_laws.proofs.Acting.{with_dev, redev, reported_of, recalled, Active, running_inside, set_alone, store_less, store_disk, word_set, replay_key}
 use Rattle.part_laws.proofs.Balances.{held_active, popped_balance}
 use Rattle.part_laws.proofs.Keeping.{AllLess, calls_less, holders_less}
 use Rattle.part_laws.proofs.OfClass.{of_class, plays_sound, sends_net}
-use Rattle.part_laws.proofs.Places.{some_same, same_at, get_map, from_map, map_join, map_swap, change_map, change_unseen, length_map}
-use Rattle.part_laws.proofs.Watching.{wanted_met, wanted_same, FoundWhere, where_at, where_only, StoresAt, covered_at, agreed_at, SetsAt, setting_at}
+use Rattle.part_laws.proofs.Indices.{some_same, same_at, get_map, from_map, map_join, map_swap, change_map, change_unseen, length_map}
+use Rattle.part_laws.proofs.Watching.{required_met, required_same, FoundWhere, where_at, where_only, StoresAt, covered_at, agreed_at, SetsAt, setting_at}
 
--- The acts of a burst: the facts stay, and what they show is what the never-failing device may show.
+-- The acts of a burst: the facts stay, and the never-failing device may show what the acts show.
 
 -- the call that a burst serves is Inside; number 0 is the shadow's own
 abbrev pub Serves : ℕ → CallEntry → Past → Type 0
 Serves zero e b = Unit {0}
 Serves (suc k) e b = (c : Call) × At b.calls k c × (c.core.inside ≡ true) × (e ≡ entry_of (suc k) c.core)
 
--- what an act shows, before more
+-- what an act shows, followed by the rest
 abbrev pub act_shown : ℕ → Act → List Visible → List Visible
 act_shown n (act.Sent frame) more = wire n frame ∷ more
 act_shown n (act.Played word rate volume) more = sample word rate volume ∷ more
@@ -57,7 +57,7 @@ pub record ActOk (v : View) (b : Past) (n : ℕ) (e : CallEntry) (a : Act) : Typ
 abbrev unbroken : Option ℕ
 unbroken = None
 
--- ---- the never-failing device goes on
+-- ---- the never-failing device continues
 
 pub ran_step : (m m' : Ideal) (s : Visible) (more : List Visible) → shows m s ≡ Some m' → ran m (s ∷ more) ≡ ran m' more
 unfolding ran
@@ -67,20 +67,20 @@ pub when_true : (t : Bool) (m : Ideal) → t ≡ true → when t m ≡ Some m
 when_true true m h = refl
 when_true false m h = absurd cc
 
--- ---- a change that the facts do not speak of
+-- ---- a change that does not concern the facts
 
-serves_told : (n : ℕ) (e : CallEntry) (b : Past) (calls' : List Call) → map told_of calls' ≡ map told_of b.calls
+serves_reported : (n : ℕ) (e : CallEntry) (b : Past) (calls' : List Call) → map reported_of calls' ≡ map reported_of b.calls
     → Serves n e b → Serves n e (record b { calls = calls' })
-serves_told zero e b calls' s h = tt
-serves_told (suc k) e b calls' s (c, h, i, x) = moved (from_map told_of calls' k (told_of c) (subst (λ l. At l k (told_of c)) (sym s) (get_map told_of b.calls k c h)))
+serves_reported zero e b calls' s h = tt
+serves_reported (suc k) e b calls' s (c, h, i, x) = moved (from_map reported_of calls' k (reported_of c) (subst (λ l. At l k (reported_of c)) (sym s) (get_map reported_of b.calls k c h)))
   where
-    moved : (d : Call) × At calls' k d × (told_of c ≡ told_of d) → Serves (suc k) e (record b { calls = calls' })
+    moved : (d : Call) × At calls' k d × (reported_of c ≡ reported_of d) → Serves (suc k) e (record b { calls = calls' })
     moved (d, g, t) = (d, g, ap (λ (p : Core × Bool). p.0.inside) (sym t) ∙ i, x ∙ ap (λ (p : Core × Bool). entry_of (suc k) p.0) t)
 
-told_same : (b : Past) (calls' : List Call) → map told_of calls' ≡ map told_of b.calls → tracks_of b ≡ tracks_of (record b { calls = calls' })
-told_same b calls' s = ap (map as_track)
-    (sym (map_join (λ (p : Core × Bool). p.0) told_of core_of (λ c. refl) b.calls) ∙ ap (map (λ (p : Core × Bool). p.0)) (sym s)
-    ∙ map_join (λ (p : Core × Bool). p.0) told_of core_of (λ c. refl) calls')
+reported_same : (b : Past) (calls' : List Call) → map reported_of calls' ≡ map reported_of b.calls → tracks_of b ≡ tracks_of (record b { calls = calls' })
+reported_same b calls' s = ap (map as_track)
+    (sym (map_join (λ (p : Core × Bool). p.0) reported_of core_of (λ c. refl) b.calls) ∙ ap (map (λ (p : Core × Bool). p.0)) (sym s)
+    ∙ map_join (λ (p : Core × Bool). p.0) reported_of core_of (λ c. refl) calls')
 
 -- ---- a command that failed
 
@@ -88,18 +88,18 @@ pub failed_ok : (v : View) (b : Past) (n : ℕ) (e : CallEntry) (block : ℕ) (s
 failed_ok v b n e block store f s = record {
   after = record b { calls = calls };
   facts = recalled v b calls same f;
-  serves = serves_told n e b calls same s;
+  serves = serves_reported n e b calls same s;
   seen = ap (λ cs. record (watch_of v b) { calls = cs }) (sym (change_map as_watched (fail_call block) (failed_at block) (λ c. refl) n b.calls));
   counted = λ m x. x;
-  tracked = told_same b calls same;
+  tracked = reported_same b calls same;
   shown = λ more. ap (λ os. ran (record (ideal_of v b) { opened = os }) more) (sym (change_unseen as_opened (fail_call block) (λ c. refl) n b.calls));
 }
   where
     calls : List Call
     calls = change_number (fail_call block) n b.calls
 
-    same : map told_of (change_number (fail_call block) n b.calls) ≡ map told_of b.calls
-    same = change_unseen told_of (fail_call block) (λ c. refl) n b.calls
+    same : map reported_of (change_number (fail_call block) n b.calls) ≡ map reported_of b.calls
+    same = change_unseen reported_of (fail_call block) (λ c. refl) n b.calls
 
 -- ---- a frame sent
 
@@ -108,18 +108,18 @@ opened_sent c = ap (λ t. record (as_opened c) { wired = t }) (lt-ltb 0 (suc c.s
 
 pub sent_ok : (v : View) (b : Past) (n : ℕ) (e : CallEntry) (frame : List ℕ) → Facts v b → Serves n e b
     → (sees_act n (act.Sent frame) (watch_of v b)).clause ≡ None → ActOk v b n e (act.Sent frame)
-sent_ok v b zero e frame f s h = absurd cc (wanted_met false 5 (wanted true 6 None) h).0
+sent_ok v b zero e frame f s h = absurd cc (required_met false 5 (required true 6 None) h).0
 sent_ok v b (suc k) e frame f (c, g, i, x) h = record {
   after = record b { calls = calls };
   facts = recalled v b calls same f;
-  serves = serves_told (suc k) e b calls same (c, g, i, x);
+  serves = serves_reported (suc k) e b calls same (c, g, i, x);
   seen =
-      ap (λ cs. record (watch_of v b) { calls = cs; clause = wanted own 5 (wanted first 6 None) })
+      ap (λ cs. record (watch_of v b) { calls = cs; clause = required own 5 (required first 6 None) })
       (sym (change_map as_watched send_call sent_once (λ d. refl) (suc k) b.calls))
       ∙ ap (λ t. record (watch_of v b) { calls = map as_watched calls; clause = t })
-      (wanted_same own 5 (wanted first 6 None) met.0 ∙ wanted_same first 6 None later.0);
+      (required_same own 5 (required first 6 None) met.0 ∙ required_same first 6 None later.0);
   counted = λ m x. x;
-  tracked = told_same b calls same;
+  tracked = reported_same b calls same;
   shown = λ more. ran_step (ideal_of v b) (ideal_of v (record b { calls = calls })) (wire (suc k) frame) more
       (ap (option_and_then (λ o. when (same_class v.class Net && may_wire frame o) next)) (get_map as_opened b.calls k c g)
       ∙ when_true (same_class v.class Net && may_wire frame (as_opened c)) next
@@ -133,8 +133,8 @@ sent_ok v b (suc k) e frame f (c, g, i, x) h = record {
     calls : List Call
     calls = change_number send_call (suc k) b.calls
 
-    same : map told_of (change_number send_call (suc k) b.calls) ≡ map told_of b.calls
-    same = change_unseen told_of send_call (λ c. refl) (suc k) b.calls
+    same : map reported_of (change_number send_call (suc k) b.calls) ≡ map reported_of b.calls
+    same = change_unseen reported_of send_call (λ c. refl) (suc k) b.calls
 
     own : Bool
     own = is_own_frame frame (at_number (suc k) (map as_watched b.calls))
@@ -142,11 +142,11 @@ sent_ok v b (suc k) e frame f (c, g, i, x) h = record {
     first : Bool
     first = is_first_frame (at_number (suc k) (map as_watched b.calls))
 
-    met : (own ≡ true) × (wanted first 6 None ≡ None)
-    met = wanted_met own 5 (wanted first 6 None) h
+    met : (own ≡ true) × (required first 6 None ≡ None)
+    met = required_met own 5 (required first 6 None) h
 
     later : (first ≡ true) × (unbroken ≡ None)
-    later = wanted_met first 6 None met.1
+    later = required_met first 6 None met.1
 
     next : Ideal
     next = record (ideal_of v b) { opened = change_number wired_once (suc k) (map as_opened b.calls) }
@@ -209,7 +209,7 @@ open_store : (n k : ℕ) (cs : List Core) → open_from k cs ≡ open_from k (ma
 open_store n k [] = refl
 open_store n k (c ∷ cs) = ap (keep_waiting c.waits (entry_of k c)) (open_store n (suc k) cs)
 
--- what is said of a register, where the Sets that are Inside stay
+-- what holds of a register if the Sets that are Inside stay
 pub key_forward : (cs ds : List Core) (config defaults : List ℕ) (driven : Bool) (m : Mode) (key value : ℕ)
     → (IsSetting cs key value → IsSetting ds key value) → KeyIn cs config defaults driven m key value → KeyIn ds config defaults driven m key value
 key_forward cs ds config defaults driven (mode.Boot s) key value g h = h
@@ -220,7 +220,7 @@ key_forward cs ds config defaults driven (mode.Dead collected) key value g h = h
 
 store_setting : (n : ℕ) (cs : List Core) (key value : ℕ) → IsSetting cs key value → IsSetting (map (store_core n) cs) key value
 store_setting n cs key value s = record
-    { place = s.place; call = store_core n s.call; at = get_map (store_core n) cs s.place s.call s.at; inside = s.inside; sets = s.sets }
+    { index = s.index; call = store_core n s.call; at = get_map (store_core n) cs s.index s.call s.at; inside = s.inside; sets = s.sets }
 
 pub stored_ok : (v : View) (b : Past) (n : ℕ) (e : CallEntry) (block : ℕ) (words : List ℕ) → Facts v b → Serves n e b
     → Fits (act.Store block words) v.dev → (sees_act n (act.Store block words) (watch_of v b)).clause ≡ None
@@ -233,11 +233,11 @@ stored_ok v b n e block words f s fit h = with_store (covered_at block (map as_w
     agreed : Bool
     agreed = is_agreed block words (map as_watched b.calls)
 
-    met : (covered ≡ true) × (wanted agreed 2 None ≡ None)
-    met = wanted_met covered 1 (wanted agreed 2 None) h
+    met : (covered ≡ true) × (required agreed 2 None ≡ None)
+    met = required_met covered 1 (required agreed 2 None) h
 
     later : (agreed ≡ true) × (unbroken ≡ None)
-    later = wanted_met agreed 2 None met.1
+    later = required_met agreed 2 None met.1
 
     calls : List Call
     calls = map (with_core (store_core block)) b.calls
@@ -260,7 +260,7 @@ stored_ok v b n e block words f s fit h = with_store (covered_at block (map as_w
     handed m k c i r u (d, g, x) = f.handed_up m k d g
         (ap (λ y. y.core.inside) (sym x) ∙ i) (ap (λ y. is_recv y.core.op) (sym x) ∙ r) (ap (λ y. y.handed) (sym x) ∙ u)
 
-    with_call : (p : StoresAt block (map as_watched b.calls)) → (c : Call) × At b.calls p.place c × (p.call ≡ as_watched c)
+    with_call : (p : StoresAt block (map as_watched b.calls)) → (c : Call) × At b.calls p.index c × (p.call ≡ as_watched c)
         → Facts (with_dev (act_on (act.Store block words) v.dev) v) (record b { calls = map (with_core (store_core block)) b.calls })
     with_call p (c, g, x) = record {
       linked = f.linked;
@@ -271,10 +271,10 @@ stored_ok v b n e block words f s fit h = with_store (covered_at block (map as_w
       count = f.count ∙ sym (length_map (with_core (store_core block)) b.calls);
       calls = subst (λ cs. CallsFacts v.class v.size cs) (sym same) (calls_less v.class v.size (cores b) new f.calls less);
       disk = subst (λ cs. DiskFacts cs b.blocks (slice_set v.dev.medium block words)) (sym same)
-          (store_disk v.class v.size (cores b) b.blocks v.dev.medium block words f.calls f.disk fit p.place c.core
-          (get_map core_of b.calls p.place c g) (ap (λ w. w.inside) (sym x) ∙ p.inside) (ap (λ w. is_write w.op) (sym x) ∙ p.writes)
+          (store_disk v.class v.size (cores b) b.blocks v.dev.medium block words f.calls f.disk fit p.index c.core
+          (get_map core_of b.calls p.index c g) (ap (λ w. w.inside) (sym x) ∙ p.inside) (ap (λ w. is_write w.op) (sym x) ∙ p.writes)
           (ap (λ w. covers w.op block) (sym x) ∙ p.covered)
-          (agreed_at block words (map as_watched b.calls) later.0 p.place p.call p.at p.inside p.writes p.covered ∙ ap (λ w. words_for w.op block) x));
+          (agreed_at block words (map as_watched b.calls) later.0 p.index p.call p.at p.inside p.writes p.covered ∙ ap (λ w. words_for w.op block) x));
       holders = λ k d j. holders_less v.holder (cores b) new less f.holders k d (subst (λ cs. At cs k d) same j);
       registers = λ key. subst (λ cs. KeyIn cs v.config v.defaults v.driven v.mode key (slice_index v.dev.registers key)) (sym same)
           (key_forward (cores b) new v.config v.defaults v.driven v.mode key (slice_index v.dev.registers key)
@@ -292,11 +292,11 @@ stored_ok v b n e block words f s fit h = with_store (covered_at block (map as_w
     with_store p = record {
       counted = λ m x. x;
       after = record b { calls = calls };
-      facts = with_call p (from_map as_watched b.calls p.place p.call p.at);
+      facts = with_call p (from_map as_watched b.calls p.index p.call p.at);
       serves = serves n s;
       seen =
           ap (λ t. record (watch_of v b) { medium = slice_set v.dev.medium block words; clause = t })
-          (wanted_same covered 1 (wanted agreed 2 None) met.0 ∙ wanted_same agreed 2 None later.0)
+          (required_same covered 1 (required agreed 2 None) met.0 ∙ required_same agreed 2 None later.0)
           ∙ ap (λ cs. record (watch_of v b) { medium = slice_set v.dev.medium block words; calls = cs })
           (sym (map_join as_watched (with_core (store_core block)) as_watched (λ c. refl) b.calls));
       tracked = map_swap (store_track block) as_track as_track (store_core block) (λ c. refl) (cores b) ∙ ap (map as_track) (sym same);
@@ -313,7 +313,7 @@ register_ok v b n e key value f a s h = record {
   after = b;
   facts = redev v b (act_on (act.Register key value) v.dev) f refl (length-set v.dev.registers key value) f.disk (λ k. by_key k (word_set v.dev.registers key k value)) f.chain;
   serves = s;
-  seen = ap (λ t. record (watch_of v b) { registers = slice_set v.dev.registers key value; clause = t }) (wanted_same may 12 None met.0);
+  seen = ap (λ t. record (watch_of v b) { registers = slice_set v.dev.registers key value; clause = t }) (required_same may 12 None met.0);
   tracked = refl;
   shown = λ more. refl;
 }
@@ -331,15 +331,15 @@ register_ok v b n e key value f a s h = record {
     may = may_register key value (watch_of v b)
 
     met : (may ≡ true) × (unbroken ≡ None)
-    met = wanted_met may 12 None h
+    met = required_met may 12 None h
 
     with_set : SetsAt key value (map as_watched b.calls) → KeyIn (cores b) v.config v.defaults v.driven v.mode key value
-    with_set p = with_call (from_map as_watched b.calls p.place p.call p.at)
+    with_set p = with_call (from_map as_watched b.calls p.index p.call p.at)
       where
-        with_call : (c : Call) × At b.calls p.place c × (p.call ≡ as_watched c) → KeyIn (cores b) v.config v.defaults v.driven v.mode key value
+        with_call : (c : Call) × At b.calls p.index c × (p.call ≡ as_watched c) → KeyIn (cores b) v.config v.defaults v.driven v.mode key value
         with_call (c, g, x) = subst (λ m. KeyIn (cores b) v.config v.defaults v.driven m key value)
-            (sym (running_inside v b f a p.place c.core (get_map core_of b.calls p.place c g) inside))
-            (inr (record { place = p.place; call = c.core; at = get_map core_of b.calls p.place c g; inside = inside; sets = ap (λ w. w.op) (sym x) ∙ p.sets }))
+            (sym (running_inside v b f a p.index c.core (get_map core_of b.calls p.index c g) inside))
+            (inr (record { index = p.index; call = c.core; at = get_map core_of b.calls p.index c g; inside = inside; sets = ap (λ w. w.op) (sym x) ∙ p.sets }))
           where
             inside : c.core.inside ≡ true
             inside = ap (λ w. w.inside) (sym x) ∙ p.inside
@@ -383,7 +383,7 @@ pub is_the_holder : (holder : Option ℕ) (t : ℕ) → is_holder holder t ≡ t
 is_the_holder None t h = absurd cc
 is_the_holder (Some u) t h = ap Some (eqb-true u t h)
 
--- in Running, with another call than a Set Inside, a register is the record
+-- in Running a register is the record, if a call other than a Set is Inside
 register_is : (v : View) (b : Past) → Facts v b → v.mode ≡ mode.Running → (k : ℕ) (c : Core) → At (cores b) k c → c.inside ≡ true
     → is_play c.op ≡ true → (key : ℕ) → slice_index v.dev.registers key ≡ slice_index v.config key
 register_is v b f r k c h i p key = by_fact (subst (λ m. KeyIn (cores b) v.config v.defaults v.driven m key (slice_index v.dev.registers key)) r (f.registers key))
@@ -402,7 +402,7 @@ register_is v b f r k c h i p key = by_fact (subst (λ m. KeyIn (cores b) v.conf
     by_fact : (slice_index v.dev.registers key ≡ slice_index v.config key) ⊎ IsSetting (cores b) key (slice_index v.dev.registers key)
         → slice_index v.dev.registers key ≡ slice_index v.config key
     by_fact (inl e) = e
-    by_fact (inr s) = absurd (set_alone v b f s.place k s.call c s.at h s.inside i (ap is_set s.sets)
+    by_fact (inr s) = absurd (set_alone v b f s.index k s.call c s.at h s.inside i (ap is_set s.sets)
         (λ e. no_set c.op p (ap (λ x. is_set x.op) (sym (same_at (cores b) k s.call c (subst (λ q. At (cores b) q s.call) e s.at) h)) ∙ ap is_set s.sets)))
 
 pub played_ok : (v : View) (b : Past) (n : ℕ) (e : CallEntry) (word rate volume : ℕ) → Facts v b → Active v → Serves n e b
@@ -420,15 +420,15 @@ played_ok v b n e word rate volume f a s fit h = by_item (at_number number watch
     next = is_next_of word (at_number number watched)
 
     met : (next ≡ true) × (unbroken ≡ None)
-    met = wanted_met next 10 None h
+    met = required_met next 10 None h
 
     calls : List Call
     calls = change_number play_call number b.calls
 
-    same : map told_of (change_number play_call number b.calls) ≡ map told_of b.calls
-    same = change_unseen told_of play_call (λ c. refl) number b.calls
+    same : map reported_of (change_number play_call number b.calls) ≡ map reported_of b.calls
+    same = change_unseen reported_of play_call (λ c. refl) number b.calls
 
-    -- the never-failing device with one sample more of the call with a number played
+    -- the never-failing device, with one more sample played for the call with a number
     next_play : ℕ → Ideal
     next_play m = record (ideal_of v b) { opened = change_number played_once m (map as_opened b.calls) }
 
@@ -436,23 +436,23 @@ played_ok v b n e word rate volume f a s fit h = by_item (at_number number watch
     sounds m o = when (same_class v.class Sound && may_sound word rate volume (ideal_of v b) o) (next_play m)
 
     with_call : (w : Watched) → is_next_of word (Some w) ≡ true → (p : FoundWhere is_playing watched w)
-        → (c : Call) × At b.calls p.place c × (w ≡ as_watched c) → ActOk v b n e (act.Played word rate volume)
+        → (c : Call) × At b.calls p.index c × (w ≡ as_watched c) → ActOk v b n e (act.Played word rate volume)
     with_call w t p (c, g, x) = record {
       after = record b { calls = calls };
       facts = recalled v b calls same f;
-      serves = serves_told n e b calls same s;
+      serves = serves_reported n e b calls same s;
       seen =
-          ap (λ cs. record (watch_of v b) { calls = cs; clause = wanted next 10 None })
+          ap (λ cs. record (watch_of v b) { calls = cs; clause = required next 10 None })
           (sym (change_map as_watched play_call played_one (λ d. refl) number b.calls))
-          ∙ ap (λ t. record (watch_of v b) { calls = map as_watched calls; clause = t }) (wanted_same next 10 None met.0);
+          ∙ ap (λ t. record (watch_of v b) { calls = map as_watched calls; clause = t }) (required_same next 10 None met.0);
       counted = λ m x. x;
-      tracked = told_same b calls same;
+      tracked = reported_same b calls same;
       shown = λ more. ran_step (ideal_of v b) (ideal_of v (record b { calls = calls })) (sample word rate volume) more
           (ap (λ m. option_and_then (sounds m) (at_number m (map as_opened b.calls))) plays
-          ∙ ap (option_and_then (sounds (suc p.place))) (get_map as_opened b.calls p.place c g)
-          ∙ when_true (same_class v.class Sound && may_sound word rate volume (ideal_of v b) (as_opened c)) (next_play (suc p.place))
+          ∙ ap (option_and_then (sounds (suc p.index))) (get_map as_opened b.calls p.index c g)
+          ∙ when_true (same_class v.class Sound && may_sound word rate volume (ideal_of v b) (as_opened c)) (next_play (suc p.index))
           (and_from (same_class v.class Sound) (may_sound word rate volume (ideal_of v b) (as_opened c))
-          (plays_sound v.class c.core.op passes.1 (of_class v.class v.size c.core.op ((f.calls.each p.place c.core at).checked waits)))
+          (plays_sound v.class c.core.op passes.1 (of_class v.class v.size c.core.op ((f.calls.each p.index c.core at).checked waits)))
           (and_from (is_next c.core.op c.played word && eqb (slice_index v.config 0) rate)
           (eqb (slice_index v.config 1) volume)
           (and_from (is_next c.core.op c.played word) (eqb (slice_index v.config 0) rate)
@@ -466,34 +466,34 @@ played_ok v b n e word rate volume f a s fit h = by_item (at_number number watch
         passes : (c.core.inside ≡ true) × (is_play c.core.op ≡ true)
         passes = and_parts c.core.inside (is_play c.core.op) (ap is_playing (sym x) ∙ p.passes)
 
-        at : At (cores b) p.place c.core
-        at = get_map core_of b.calls p.place c g
+        at : At (cores b) p.index c.core
+        at = get_map core_of b.calls p.index c g
 
         running : v.mode ≡ mode.Running
-        running = running_inside v b f a p.place c.core at passes.0
+        running = running_inside v b f a p.index c.core at passes.0
 
         register : (key : ℕ) → slice_index v.dev.registers key ≡ slice_index v.config key
-        register = register_is v b f running p.place c.core at passes.0 passes.1
+        register = register_is v b f running p.index c.core at passes.0 passes.1
 
         holder : v.holder ≡ Some c.core.thread
-        holder = play_holder v.holder c.core.thread c.core.op passes.1 (f.holders p.place c.core at passes.0)
+        holder = play_holder v.holder c.core.thread c.core.op passes.1 (f.holders p.index c.core at passes.0)
 
         waits : c.core.waits ≡ true
-        waits = (f.calls.each p.place c.core at).opened passes.0
+        waits = (f.calls.each p.index c.core at).opened passes.0
 
-        only : (j : ℕ) (y : Opened) → At (map as_opened b.calls) j y → plays_for v.holder y ≡ true → j ≡ p.place
+        only : (j : ℕ) (y : Opened) → At (map as_opened b.calls) j y → plays_for v.holder y ≡ true → j ≡ p.index
         only j y hy ty = by_call (from_map as_opened b.calls j y hy)
           where
-            by_call : (d : Call) × At b.calls j d × (y ≡ as_opened d) → j ≡ p.place
-            by_call (d, gd, ed) = f.calls.alone j p.place d.core c.core (get_map core_of b.calls j d gd) at
+            by_call : (d : Call) × At b.calls j d × (y ≡ as_opened d) → j ≡ p.index
+            by_call (d, gd, ed) = f.calls.alone j p.index d.core c.core (get_map core_of b.calls j d gd) at
                 (and_parts d.core.waits (is_play d.core.op) parts.0).0 waits
                 (some_same d.core.thread c.core.thread (sym (is_the_holder v.holder d.core.thread parts.1) ∙ holder))
               where
                 parts : ((d.core.waits && is_play d.core.op) ≡ true) × (is_holder v.holder d.core.thread ≡ true)
                 parts = and_parts (d.core.waits && is_play d.core.op) (is_holder v.holder d.core.thread) (ap (plays_for v.holder) (sym ed) ∙ ty)
 
-        plays : play_of (ideal_of v b) ≡ suc p.place
-        plays = where_only (plays_for v.holder) (map as_opened b.calls) p.place (as_opened c) (get_map as_opened b.calls p.place c g)
+        plays : play_of (ideal_of v b) ≡ suc p.index
+        plays = where_only (plays_for v.holder) (map as_opened b.calls) p.index (as_opened c) (get_map as_opened b.calls p.index c g)
             (and_from (c.core.waits && is_play c.core.op) (is_holder v.holder c.core.thread)
             (and_from c.core.waits (is_play c.core.op) waits passes.1) (holder_is v.holder c.core.thread holder))
             only
@@ -503,4 +503,4 @@ played_ok v b n e word rate volume f a s fit h = by_item (at_number number watch
     by_item (Some w) q t = with_found (where_at is_playing watched w q)
       where
         with_found : FoundWhere is_playing watched w → ActOk v b n e (act.Played word rate volume)
-        with_found p = with_call w t p (from_map as_watched b.calls p.place w p.at)
+        with_found p = with_call w t p (from_map as_watched b.calls p.index w p.at)

@@ -1,4 +1,4 @@
--- A call that was given its number is open, or an event has answered it.
+-- A call that was given a number is open, or an event has answered it.
 use Rattle.std.proofs.Common.{◌≡◌, ◌⊎◌, inl, inr, ℕ, ◌+◌, ◌<◌, ◌≤◌, ◌==◌, ◌&&◌, ◌||◌, nat_le, not, is_some, if◌then◌else◌, Bool, true, false, Option, Some, None, Result, Ok, Err, List, [], ◌∷◌, ◌++◌, map, filter, refl, sym, ap, ◌∙◌, subst, add-zero, arith, true≢false}
 use Rattle.std.proofs.lemmas.Bool.{eqb-true, eq-eqb, ne_eqb, le-leb}
 use Rattle.std.proofs.lemmas.Bool.Decides.{nat_tests}
@@ -56,7 +56,7 @@ pub record AnswersCall (context : ℕ) (p : PartState) (x : Crossed) : Type 0 wh
   pub a : Answer
   pub other : (context == 16) ≡ false
   pub found : call_of_thread context p.log.pending ≡ Some c
-  pub told : x.answer ≡ Some a
+  pub reported : x.answer ≡ Some a
   pub closed : x.state.log.pending ≡ filter (λ d. not (is_call c.call d)) p.log.pending
 
 -- or nothing
@@ -75,8 +75,8 @@ reply_shows status context p None e h = inl (refl, refl)
 reply_shows status context p (Some c) e h = by_accept (accept c.op status)
   where
     by_accept : (a : Accept) → Shows context p (reply_by c status p a)
-    by_accept accepts.Take = inr (record { c = c; a = _; other = e; found = h; told = refl; closed = refl })
-    by_accept (accepts.IoError block) = inr (record { c = c; a = _; other = e; found = h; told = refl; closed = refl })
+    by_accept accepts.Take = inr (record { c = c; a = _; other = e; found = h; reported = refl; closed = refl })
+    by_accept (accepts.IoError block) = inr (record { c = c; a = _; other = e; found = h; reported = refl; closed = refl })
     by_accept (accepts.Fail cause) = inl (refl, refl)
 
 pub crossed_shows : (context : ℕ) (e : BurstEnd) (p : PartState) → Shows context p (after_crossing context e p)
@@ -101,7 +101,7 @@ crossed_shows context (ends.Reply status) p = by_own (context == 16) refl
 
 -- ---- what Stop answers
 
--- the shadow keeps an operation, or answers it
+-- the shadow keeps or answers an operation
 pub shadow_says : (o : Op) (thread : ℕ) (config : List ℕ) (holder : Option ℕ) (queue : List (List ℕ))
     → ((is_held o ≡ true) × (shadow_answer o thread config holder stage.Stop queue ≡ None))
     ⊎ ((is_held o ≡ false) × ((a : Answer) × (shadow_answer o thread config holder stage.Stop queue ≡ Some a)))
@@ -145,7 +145,7 @@ opens_found : (n : ℕ) (calls : List CallEntry) → is_some (open_call n calls)
 opens_found n [] = refl
 opens_found n (c ∷ calls) = split (c.call == n) (λ e. rw e refl) (λ e. rw e (opens_found n calls))
 
--- numbers are those that were given
+-- the numbers are those that were given
 opens_above : (n low count : ℕ) (calls : List CallEntry) → IsRising low count calls → opens n calls ≡ true → (low < n) × (n ≤ count)
 opens_above n low count [] r h = absurd (true≢false (sym h))
 opens_above n low count (c ∷ calls) r h = split (c.call == n)
@@ -176,19 +176,19 @@ found_opens t (d ∷ calls) c h = split (d.thread == t)
     inner : {x y : CallEntry} → Some x ≡ Some y → x ≡ y
     inner i = cc
 
--- one call more
+-- one more call
 pushed : (n : ℕ) (calls : List CallEntry) (c : CallEntry) → opens n (calls ++ c ∷ []) ≡ (opens n calls || (c.call == n))
 pushed n [] c = split (c.call == n) (λ e. rw e refl) (λ e. rw e refl)
 pushed n (d ∷ calls) c = split (d.call == n) (λ e. rw e refl) (λ e. rw e (pushed n calls c))
 
--- calls change and keep their numbers
+-- calls change but keep their numbers
 renamed : (f : CallEntry → CallEntry) (n : ℕ) (calls : List CallEntry) → ((c : CallEntry) → (f c).call ≡ c.call) → opens n (map f calls) ≡ opens n calls
 renamed f n [] same = refl
 renamed f n (c ∷ calls) same = rw (same c, renamed f n calls same) refl
 
 -- ---- what is answered
 
--- the number was given, and the call is open no more
+-- the number was given, and the call is no longer open
 abbrev is_done : ℕ → ℕ → List CallEntry → Bool
 is_done n count calls = (nat_le 1 n && nat_le n count) && not (opens n calls)
 
@@ -204,24 +204,24 @@ and_false : (b : Bool) → (b && false) ≡ false
 and_false true = refl
 and_false false = refl
 
-closed_by : (given was told : Bool) → (told ≡ true → was ≡ true) → (was ≡ true → given ≡ true) → (given && not (was && not told)) ≡ ((given && not was) || told)
+closed_by : (given was reported : Bool) → (reported ≡ true → was ≡ true) → (was ≡ true → given ≡ true) → (given && not (was && not reported)) ≡ ((given && not was) || reported)
 closed_by true true true f g = refl
 closed_by true true false f g = refl
 closed_by true false true f g = absurd (true≢false (sym (f refl)))
 closed_by true false false f g = refl
-closed_by false true told f g = absurd (true≢false (sym (g refl)))
+closed_by false true reported f g = absurd (true≢false (sym (g refl)))
 closed_by false false true f g = absurd (true≢false (sym (f refl)))
 closed_by false false false f g = refl
 
 in_range : (n count : ℕ) → 0 < n → n ≤ count → (nat_le 1 n && nat_le n count) ≡ true
 in_range n count a b = rw (le-leb 1 n (omega arith), le-leb n count b) refl
 
--- open calls are answered, and no others
-closing : (n count : ℕ) (calls after : List CallEntry) (told : Bool) → IsRising 0 count calls → opens n after ≡ (opens n calls && not told)
-    → (told ≡ true → opens n calls ≡ true) → is_done n count after ≡ (is_done n count calls || told)
-closing n count calls after told r now was =
+-- open calls are answered, and no other
+closing : (n count : ℕ) (calls after : List CallEntry) (reported : Bool) → IsRising 0 count calls → opens n after ≡ (opens n calls && not reported)
+    → (reported ≡ true → opens n calls ≡ true) → is_done n count after ≡ (is_done n count calls || reported)
+closing n count calls after reported r now was =
     ap (λ (o : Bool). (nat_le 1 n && nat_le n count) && not o) now
-    ∙ closed_by (nat_le 1 n && nat_le n count) (opens n calls) told was
+    ∙ closed_by (nat_le 1 n && nat_le n count) (opens n calls) reported was
     (λ e. let b = opens_above n 0 count calls r e in in_range n count b.0 b.1)
 
 -- nothing is answered
@@ -254,9 +254,9 @@ removed n k a (c ∷ calls) = by_rest (removed n k a calls)
         (λ mine. rw (no, mine, apart no mine) refl)
         (λ other. rw (no, other) more))
 
-told : (n k count : ℕ) (a : Answer) (calls : List CallEntry) → IsRising 0 count calls → opens k calls ≡ true
+reported : (n k count : ℕ) (a : Answer) (calls : List CallEntry) → IsRising 0 count calls → opens k calls ≡ true
     → is_done n count (filter (λ d. not (is_call k d)) calls) ≡ (is_done n count calls || is_some (answer_among n (one_answer k (Some a))))
-told n k count a calls r waits =
+reported n k count a calls r waits =
     closing n count calls (filter (λ d. not (is_call k d)) calls) (is_some (answer_among n (one_answer k (Some a)))) r (removed n k a calls) (λ e. split (k == n)
     (λ same. subst (λ (m : ℕ). opens m calls ≡ true) (eqb-true k n same) waits)
     (λ other. absurd (true≢false (sym (rw other at e)))))
@@ -304,9 +304,9 @@ unfolding after_enter after_answering after_entering
 enter_says p n thread tied = by_call (call_of_thread thread p.log.pending) refl
   where
     by_answer : (c : CallEntry) → opens c.call p.log.pending ≡ true → (a : Admit) → Says p n (after_admit p c a)
-    by_answer c waits (admits.Reply a) = told n c.call p.log.count a p.log.pending tied.rising waits
-    by_answer c waits admits.TakeFrame = told n c.call p.log.count _ p.log.pending tied.rising waits
-    by_answer c waits (admits.Enter place) = silent n c.call p.log.count p.log.pending (map (change_entry c.call entered_call) p.log.pending)
+    by_answer c waits (admits.Reply a) = reported n c.call p.log.count a p.log.pending tied.rising waits
+    by_answer c waits admits.TakeFrame = reported n c.call p.log.count _ p.log.pending tied.rising waits
+    by_answer c waits (admits.Enter position) = silent n c.call p.log.count p.log.pending (map (change_entry c.call entered_call) p.log.pending)
         (renamed (change_entry c.call entered_call) n p.log.pending (λ d. split (is_call c.call d) (λ e. rw e refl) (λ e. rw e refl)))
 
     by_call : (o : Option CallEntry) → call_of_thread thread p.log.pending ≡ o → Says p n (entered_by p thread o)
@@ -327,9 +327,9 @@ burst_by context p q n x tied same counted (inr h) =
     let waits : opens h.c.call p.log.pending ≡ true = found_opens context p.log.pending h.c found in
     ap (λ (k : ℕ). is_done n k x.state.log.pending) counted
     ∙ ap (is_done n p.log.count) (h.closed ∙ ap (λ l. filter (λ d. not (is_call h.c.call d)) l.pending) same)
-    ∙ told n h.c.call p.log.count h.a p.log.pending tied.rising waits
+    ∙ reported n h.c.call p.log.count h.a p.log.pending tied.rising waits
     ∙ ap (λ (k : ℕ). is_done n p.log.count p.log.pending || is_some (answer_among n (one_answer k (Some h.a)))) (sym served)
-    ∙ ap (λ (a : Option Answer). is_done n p.log.count p.log.pending || is_some (answer_among n (one_answer (served_number context p) a))) (sym h.told)
+    ∙ ap (λ (a : Option Answer). is_done n p.log.count p.log.pending || is_some (answer_among n (one_answer (served_number context p) a))) (sym h.reported)
 
 burst_says : (p : PartState) (n context : ℕ) → IsTied p → Says p n (burst_stepped context p)
 unfolding burst_stepped
@@ -441,24 +441,24 @@ either : (a b c : Bool) → ((a || b) || c) ≡ (a || (b || c))
 either true b c = refl
 either false b c = refl
 
-first_or_later : (place n : ℕ) (e : Event) (events : List Event)
-    → is_some (answered_from place n (e ∷ events)) ≡ (is_some (answer_at n e) || is_some (answered_from (place + 1) n events))
-first_or_later place n e events = split (is_some (answer_at n e)) (λ h. rw h refl) (λ h. rw h refl)
+first_or_later : (position n : ℕ) (e : Event) (events : List Event)
+    → is_some (answered_from position n (e ∷ events)) ≡ (is_some (answer_at n e) || is_some (answered_from (position + 1) n events))
+first_or_later position n e events = split (is_some (answer_at n e)) (λ h. rw h refl) (λ h. rw h refl)
 
-answered_by : (place n : ℕ) (p : PartState) (events : List Event) → IsFit p → IsTied p → IsRunFrom p events
-    → (is_done n p.log.count p.log.pending || is_some (answered_from place n events))
+answered_by : (position n : ℕ) (p : PartState) (events : List Event) → IsFit p → IsTied p → IsRunFrom p events
+    → (is_done n p.log.count p.log.pending || is_some (answered_from position n events))
     ≡ is_done n (state_from p events).log.count (state_from p events).log.pending
 unfolding IsRunFrom state_from
-answered_by place n p [] fit tied r = sym (or_false (is_done n p.log.count p.log.pending))
-answered_by place n p (e ∷ events) fit tied r =
+answered_by position n p [] fit tied r = sym (or_false (is_done n p.log.count p.log.pending))
+answered_by position n p (e ∷ events) fit tied r =
     let q : PartState = state_after p (step_of e) in
     let before : Bool = is_done n p.log.count p.log.pending in
     let now : is_done n q.log.count q.log.pending ≡ (before || is_some (answer_at n e)) =
     step_says p (step_of e) n tied ∙ ap (λ (x : Event). before || is_some (answer_at n x)) r.1 in
-    ap (λ (b : Bool). before || b) (first_or_later place n e events)
-    ∙ sym (either before (is_some (answer_at n e)) (is_some (answered_from (place + 1) n events)))
-    ∙ ap (λ (b : Bool). b || is_some (answered_from (place + 1) n events)) (sym now)
-    ∙ answered_by (place + 1) n q events (fit_after p (step_of e) fit r.0) (tied_after p (step_of e) fit tied r.0) r.2
+    ap (λ (b : Bool). before || b) (first_or_later position n e events)
+    ∙ sym (either before (is_some (answer_at n e)) (is_some (answered_from (position + 1) n events)))
+    ∙ ap (λ (b : Bool). b || is_some (answered_from (position + 1) n events)) (sym now)
+    ∙ answered_by (position + 1) n q events (fit_after p (step_of e) fit r.0) (tied_after p (step_of e) fit tied r.0) r.2
 
 none_given : (spec : PartSpec) (n : ℕ) → is_done n (opening spec).log.count (opening spec).log.pending ≡ false
 unfolding opening opening_log

@@ -16,11 +16,11 @@ use Rattle.part_laws.specs.Facts.{Sub, Facts}
 use Rattle.part_laws.specs.Views.{View, Past, stage_of, view_of, watch_of, ideal_of}
 use Rattle.part_laws.proofs.Acts.{when_true}
 use Rattle.part_laws.proofs.Balances.{arrived_balance, one_of}
-use Rattle.part_laws.proofs.Places.{split}
+use Rattle.part_laws.proofs.Indices.{split}
 use Rattle.part_laws.specs.Recovery.{StepKeeps}
 use Rattle.part_laws.proofs.Subs.{sub_lost, sub_push}
 
--- A frame arrives, kept or lost.
+-- A frame arrives and is delivered or lost.
 
 abbrev ring_with : List ℕ → List (List ℕ) → List (List ℕ)
 ring_with frame ring = cond (nat_lt (length ring) 16) (ring ++ frame ∷ []) ring

@@ -7,17 +7,17 @@ use Rattle.nook_data.specs.declared.steps.Stage.{Stage}
 use Rattle.nook_data.specs.declared.steps.Stage.TheVariants as stage
 use Rattle.promise_defs.specs.Licence.{is_balanced}
 use Rattle.promise_defs.specs.Losses.{one_if}
-use Rattle.part_laws.specs.Counts.{Counts, count_answer, count_handed, count_stage, in_ring, in_driver, is_frame, told}
-use Rattle.part_laws.specs.Balance.{tally, held_at, Balance}
+use Rattle.part_laws.specs.Counts.{Counts, count_answer, count_handed, count_stage, in_ring, in_driver, is_frame, reported}
+use Rattle.part_laws.specs.Balance.{frame_counts, held_at, Balance}
 use Rattle.part_laws.specs.Facts.{is_driving}
 use Rattle.part_laws.specs.Views.{stage_of}
-use Rattle.part_laws.proofs.Places.{split}
+use Rattle.part_laws.proofs.Indices.{split}
 
--- The counts of frames, through each thing that moves a frame.
+-- The counts of frames, after everything that moves a frame.
 
--- ---- in whose hands
+-- ---- frames in the driver
 
--- where the driver runs its frames are those popped and not handed up
+-- while the driver runs, its frames are those popped and not handed up
 pub held_active : (m : Mode) (d : Bool) → (d ≡ true → is_driving (stage_of m) ≡ true) → (m ≡ mode.Running) ⊎ (d ≡ true)
     → (rest : List (List ℕ)) → held_at (stage_of m) rest ≡ length rest
 held_active m d f (inl e) rest = ap (λ x. held_at (stage_of x) rest) e
@@ -37,7 +37,7 @@ held_active m d f (inr e) rest = by_stage (stage_of m) (f e)
 -- ---- a frame popped
 
 pub popped_balance : (ring ring' queue held held' : ℕ) (n : Counts) → ring ≡ suc ring' → held' ≡ suc held
-    → Balance ring queue held (tally n) → Balance ring' queue held' (tally (record n { popped = suc n.popped; popped_since = suc n.popped_since }))
+    → Balance ring queue held (frame_counts n) → Balance ring' queue held' (frame_counts (record n { popped = suc n.popped; popped_since = suc n.popped_since }))
 popped_balance ring ring' queue held held' n r h x = record {
   arrived = x.arrived;
   kept = omega (arith, x.kept, r);
@@ -50,7 +50,7 @@ popped_balance ring ring' queue held held' n r h x = record {
 
 pub handed_balance : (ring queue queue' held held' r : ℕ) (n : Counts) → held ≡ suc held'
     → queue + one_if (not (eqb r 0)) ≡ queue' → one_if (not (eqb r 0)) + one_if (eqb r 0) ≡ 1
-    → Balance ring queue held (tally n) → Balance ring queue' held' (tally (count_handed (Some r) n))
+    → Balance ring queue held (frame_counts n) → Balance ring queue' held' (frame_counts (count_handed (Some r) n))
 handed_balance ring queue queue' held held' r n h q one x = record {
   arrived = x.arrived;
   kept = x.kept;
@@ -59,7 +59,7 @@ handed_balance ring queue queue' held held' r n h q one x = record {
   flow = omega (arith, x.flow, h, one);
 }
 
--- the result of service 6 tells whether the queue had room
+-- the result of service 6 says whether the queue had room
 pub room_balance : (queue : List (List ℕ)) (frame : List ℕ) (r : ℕ) → r ≡ cond (nat_lt (length queue) 64) 1 0
     → (length queue + one_if (not (eqb r 0)) ≡ length (cond (nat_lt (length queue) 64) (queue ++ frame ∷ []) queue))
     × (one_if (not (eqb r 0)) + one_if (eqb r 0) ≡ 1)
@@ -88,13 +88,13 @@ abbrev pub TakesFrame : Answer → List (List ℕ) → List (List ℕ) → Type 
 TakesFrame a queue queue' = length queue' + one_if (is_frame a) ≡ length queue
 
 pub answered_balance : (ring held call : ℕ) (queue queue' : List (List ℕ)) (a : Answer) (n : Counts) → TakesFrame a queue queue'
-    → Balance ring (length queue) held (tally n) → Balance ring (length queue') held (tally (count_answer call a n))
+    → Balance ring (length queue) held (frame_counts n) → Balance ring (length queue') held (frame_counts (count_answer call a n))
 answered_balance ring held call queue queue' a n q x = record
     { arrived = x.arrived; kept = x.kept; taken = omega (arith, x.taken, q); driver = x.driver; flow = x.flow }
 
 -- ---- a Reset
 
-pub reset_balance : (ring queue held : ℕ) (n : Counts) → Balance ring queue held (tally n) → Balance 0 queue 0 (tally (count_stage stage.Reset n))
+pub reset_balance : (ring queue held : ℕ) (n : Counts) → Balance ring queue held (frame_counts n) → Balance 0 queue 0 (frame_counts (count_stage stage.Reset n))
 reset_balance ring queue held n x = record {
   arrived = x.arrived;
   kept = omega (arith, x.kept);
@@ -106,8 +106,8 @@ reset_balance ring queue held n x = record {
 -- ---- an arrival
 
 pub arrived_balance : (ring ring' queue held : ℕ) (kept : Bool) (n : Counts) → ring' ≡ ring + one_if kept → one_if kept + one_if (not kept) ≡ 1
-    → Balance ring queue held (tally n)
-    → Balance ring' queue held (tally (record n { arrived = suc n.arrived; kept = n.kept + one_if kept; lost = n.lost + one_if (not kept) }))
+    → Balance ring queue held (frame_counts n)
+    → Balance ring' queue held (frame_counts (record n { arrived = suc n.arrived; kept = n.kept + one_if kept; lost = n.lost + one_if (not kept) }))
 arrived_balance ring ring' queue held kept n r one x = record {
   arrived = omega (arith, x.arrived, one);
   kept = omega (arith, x.kept, r);
@@ -120,9 +120,9 @@ pub one_of : (b : Bool) → one_if b + one_if (not b) ≡ 1
 one_of true = refl
 one_of false = refl
 
--- ---- what is told
+-- ---- what is reported
 
-pub balance_told : (ring queue held : ℕ) (n : Counts) → Balance ring queue held (tally n) → is_balanced (told n) ≡ true
-balance_told ring queue held n x = eq-eqb n.arrived
+pub balance_reported : (ring queue held : ℕ) (n : Counts) → Balance ring queue held (frame_counts n) → is_balanced (reported n) ≡ true
+balance_reported ring queue held n x = eq-eqb n.arrived
     (n.received + (n.taken - n.received) + in_ring n + in_driver n + n.reset + n.lost + n.refused)
     (omega (arith, x.arrived, x.kept, x.taken, x.driver, x.flow))

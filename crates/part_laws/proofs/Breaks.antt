@@ -1,4 +1,4 @@
--- Over orderly events what breaks first is what a monitor finds first.
+-- Over orderly events the first break is the one that a monitor finds first.
 use Rattle.std.proofs.Common.{◌≡◌, ◌⊎◌, inl, inr, ℕ, suc, ◌+◌, not, Bool, true, false, Option, Some, None, List, [], ◌∷◌, ◌++◌, map, length, filter, sym, refl, ap, ◌∙◌, subst, arith, is_none}
 use Rattle.std.specs.Prelude.{◌==◌, ◌&&◌, is_some, if◌then◌else◌}
 use Rattle.nook_data.specs.declared.machine.Act.{Act}
@@ -13,8 +13,8 @@ use Rattle.nook_data.specs.declared.steps.FailCause.{FailCause}
 use Rattle.nook_data.specs.declared.steps.Stage.{Stage}
 use Rattle.nook_data.specs.declared.steps.Stage.TheVariants as stage
 use Rattle.part_laws.specs.Watch.{Watch, Watched, break_at, enters, first_watch, handed_one, leaves, sees, sees_acts, sees_crossing, sees_stage, watched, break_from as watched_from, watched_break as watched_first}
-use Rattle.nook_data.specs.Places.{change_number}
-use Rattle.part_laws.proofs.Places.{split}
+use Rattle.nook_data.specs.Numbered.{change_number}
+use Rattle.part_laws.proofs.Indices.{split}
 use Rattle.nook_data.specs.Answers.{answers_of, one_answer}
 use Rattle.nook_data.specs.declared.clause.Clause.{Clause}
 use Rattle.promise_defs.specs.Contract.{Known, OpenCall, known_after, after_failure, break_from, broken, change_call}
@@ -36,7 +36,7 @@ kept_known : (answers : List (ℕ × Answer)) (flags : List Bool) (w : Watch)
     → without answers (known_of flags w) ≡ known_of (kept_from 1 answers flags) w
 kept_known answers flags w = ap (λ l. record (known_of flags w) { calls = l }) (picked_kept answers 1 flags w.calls)
 
--- an answered call may change before it goes
+-- an answered call may change before it is removed
 kept_changed : (f : Watched → Watched) (call : ℕ) (a : Answer) (flags : List Bool) (ws : List Watched)
     → picked 1 (kept_from 1 ((call, a) ∷ []) flags) ws ≡ picked 1 (kept_from 1 ((call, a) ∷ []) flags) (change_number f call ws)
 kept_changed f call a flags ws =
@@ -103,16 +103,16 @@ crossing_shut flags call end.Trap None None w h s = shut_none flags w.calls s
 
 -- ---- events
 
--- an event, seen by a monitor and by what is known
+-- an event, as a monitor sees it and by what is known
 pub record SeesAlike (flags : List Bool) (w : Watch) (e : Event) : Type 0 where
   pub known : known_after (known_of flags w) e ≡ known_of (flags_after flags e) (sees w e)
   pub shut : AreShut (flags_after flags e) (sees w e).calls
-  pub first : w.clause ≡ None → (place : ℕ) (later : Option Break)
-      → break_or place (broken (known_of flags w) e) later ≡ break_at (sees w e).clause place later
+  pub first : w.clause ≡ None → (position : ℕ) (later : Option Break)
+      → break_or position (broken (known_of flags w) e) later ≡ break_at (sees w e).clause position later
 
--- an event that is no burst breaks nothing
-unbroken : (w : Watch) → w.clause ≡ None → (place : ℕ) (later : Option Break) → later ≡ break_at w.clause place later
-unbroken w h place later = ap (λ c. break_at c place later) (sym h)
+-- an event other than a burst breaks nothing
+unbroken : (w : Watch) → w.clause ≡ None → (position : ℕ) (later : Option Break) → later ≡ break_at w.clause position later
+unbroken w h position later = ap (λ c. break_at c position later) (sym h)
 
 invoke_alike : (flags : List Bool) (w : Watch) (call thread : ℕ) (o : _) (a : Option Answer) → AreShut flags w.calls → call ≡ suc (length flags)
     → SeesAlike flags w (event.Invoke call thread o a)
@@ -121,7 +121,7 @@ invoke_alike flags w call thread o a s h = record {
       (ap (λ n. picked 1 flags w.calls ++ opened_call n (watched o) ∷ []) number ∙ picked_push 1 flags w.calls (watched o) s)
       ∙ kept_known (one_answer call a) (flags ++ true ∷ []) (record w { calls = w.calls ++ watched o ∷ [] });
   shut = by_answer a;
-  first = λ c place later. unbroken w c place later;
+  first = λ c position later. unbroken w c position later;
 }
   where
     number : call ≡ 1 + length flags
@@ -140,7 +140,7 @@ enter_alike flags w call thread attempt None s h = record {
       ∙ kept_known [] flags (record w { calls = change_number (enters true) call w.calls });
   shut = shut_none flags (change_number (enters true) call w.calls)
       (subst (AreShut flags) (sym (change_one (enters true) call w.calls)) (shut_open (enters true) call 1 flags w.calls h s));
-  first = λ c place later. unbroken w c place later;
+  first = λ c position later. unbroken w c position later;
 }
 enter_alike flags w call thread attempt (Some a) s h = record {
   known = ap (λ l. without ((call, a) ∷ []) (record (known_of flags w) { calls = l })) (own_change enter_call (enters true) (λ n c. refl) call flags w.calls)
@@ -148,7 +148,7 @@ enter_alike flags w call thread attempt (Some a) s h = record {
       ∙ ap (λ l. record (known_of flags w) { calls = l })
       (sym (kept_changed (enters true) call a flags w.calls) ∙ kept_changed (enters false) call a flags w.calls);
   shut = shut_one (enters false) (λ c. refl) call a flags w.calls s;
-  first = λ c place later. unbroken w c place later;
+  first = λ c position later. unbroken w c position later;
 }
 
 burst_alike : (flags : List Bool) (w : Watch) (context call burst count : ℕ) (e : End) (done : List Act) (a : Option Answer) (failure : Option FailCause)
@@ -158,14 +158,14 @@ burst_alike flags w context call burst count e done a failure s i h = record {
   known = ap (λ k. without (one_answer call a) (after_failure failure k)) (acts_known flags call (crossing_deeds e a failure) done w s)
       ∙ crossing_known flags call e a failure (sees_acts call done w) h;
   shut = crossing_shut flags call e a failure (sees_acts call done w) h (acts_shut flags call done w s);
-  first = λ c place later.
-      first_is_smallest (λ clause. is_broken_by clause call (known_of flags w) (deeds_of done e a failure)) place later
-      ∙ ap (λ x. break_at (smallest_or all_clauses (λ clause. is_broken_by clause call (known_of flags w) (deeds_of done e a failure)) x) place later) (sym c)
-      ∙ ap (λ x. break_at x place later)
+  first = λ c position later.
+      first_is_smallest (λ clause. is_broken_by clause call (known_of flags w) (deeds_of done e a failure)) position later
+      ∙ ap (λ x. break_at (smallest_or all_clauses (λ clause. is_broken_by clause call (known_of flags w) (deeds_of done e a failure)) x) position later) (sym c)
+      ∙ ap (λ x. break_at x position later)
       (acts_broken flags call (crossing_deeds e a failure) done w i s ∙ crossing_broken flags call e a failure (sees_acts call done w) i h);
 }
 
--- a stage other than Stop answers none
+-- only Stop answers calls
 plain_shut : (flags : List Bool) (ws : List Watched) (answers : List (ℕ × Answer)) → AreShut flags ws → answers ≡ []
     → AreShut (kept_from 1 answers flags) ws
 plain_shut flags ws answers s e = subst (λ l. AreShut (kept_from 1 l flags) ws) (sym e) (shut_none flags ws s)
@@ -176,42 +176,42 @@ stage_alike flags w stage.Stop answers released s h = record {
   known = ap (λ l. without answers (record (known_of flags w) { calls = l })) (picked_left 1 flags w.calls)
       ∙ kept_known answers flags (sees_stage stage.Stop w);
   shut = shut_left answers 1 flags w.calls s;
-  first = λ c place later. unbroken w c place later;
+  first = λ c position later. unbroken w c position later;
 }
 stage_alike flags w stage.Collect answers released s h = record {
   known = kept_known answers flags (sees_stage stage.Collect w);
   shut = plain_shut flags w.calls answers s h.0;
-  first = λ c place later. unbroken w c place later;
+  first = λ c position later. unbroken w c position later;
 }
 stage_alike flags w stage.Reset answers released s h = record {
   known = kept_known answers flags (sees_stage stage.Reset w);
   shut = plain_shut flags w.calls answers s h.0;
-  first = λ c place later. unbroken w c place later;
+  first = λ c position later. unbroken w c position later;
 }
 stage_alike flags w stage.Load answers released s h = record {
   known = kept_known answers flags (sees_stage stage.Load w);
   shut = plain_shut flags w.calls answers s h.0;
-  first = λ c place later. unbroken w c place later;
+  first = λ c position later. unbroken w c position later;
 }
 stage_alike flags w stage.Init answers released s h = record {
   known = kept_known answers flags (sees_stage stage.Init w);
   shut = plain_shut flags w.calls answers s h.0;
-  first = λ c place later. unbroken w c place later;
+  first = λ c position later. unbroken w c position later;
 }
 stage_alike flags w (stage.ReplaySet key value) answers released s h = record {
   known = kept_known answers flags (sees_stage (stage.ReplaySet key value) w);
   shut = plain_shut flags w.calls answers s h.0;
-  first = λ c place later. unbroken w c place later;
+  first = λ c position later. unbroken w c position later;
 }
 stage_alike flags w stage.ReplayOpen answers released s h = record {
   known = kept_known answers flags (sees_stage stage.ReplayOpen w);
   shut = plain_shut flags w.calls answers s h.0;
-  first = λ c place later. unbroken w c place later;
+  first = λ c position later. unbroken w c position later;
 }
 stage_alike flags w stage.Resume answers released s h = record {
   known = kept_known answers flags (sees_stage stage.Resume w);
   shut = plain_shut flags w.calls answers s h.0;
-  first = λ c place later. unbroken w c place later;
+  first = λ c position later. unbroken w c position later;
 }
 
 pub event_alike : (flags : List Bool) (w : Watch) (e : Event) → AreShut flags w.calls → IsFitting flags e → SeesAlike flags w e
@@ -223,27 +223,27 @@ event_alike flags w (event.Stage t answers released) s h = stage_alike flags w t
 event_alike flags w (event.Arrive frame kept) s h = record {
   known = kept_known [] flags (sees w (event.Arrive frame kept));
   shut = shut_none flags w.calls s;
-  first = λ c place later. unbroken w c place later;
+  first = λ c position later. unbroken w c position later;
 }
 
--- ---- events that follow
+-- ---- consecutive events
 
-later_only : (place : ℕ) (o : Option ℕ) (x y : Option Break) → (o ≡ None → x ≡ y) → break_at o place x ≡ break_at o place y
-later_only place None x y h = h refl
-later_only place (Some clause) x y h = refl
+later_only : (position : ℕ) (o : Option ℕ) (x y : Option Break) → (o ≡ None → x ≡ y) → break_at o position x ≡ break_at o position y
+later_only position None x y h = h refl
+later_only position (Some clause) x y h = refl
 
-breaks_alike : (place : ℕ) (flags : List Bool) (w : Watch) (events : List Event) → AreShut flags w.calls → w.clause ≡ None → IsOrderlyFrom flags events
-    → break_from place (known_of flags w) events ≡ watched_from place w events
+breaks_alike : (position : ℕ) (flags : List Bool) (w : Watch) (events : List Event) → AreShut flags w.calls → w.clause ≡ None → IsOrderlyFrom flags events
+    → break_from position (known_of flags w) events ≡ watched_from position w events
 unfolding break_from watched_from
-breaks_alike place flags w [] s c h = refl
-breaks_alike place flags w (e ∷ events) s c h =
+breaks_alike position flags w [] s c h = refl
+breaks_alike position flags w (e ∷ events) s c h =
     let alike : SeesAlike flags w e = event_alike flags w e s h.0 in
-    alike.first c place (break_from (suc place) (known_after (known_of flags w) e) events)
-    ∙ later_only place (sees w e).clause (break_from (suc place) (known_after (known_of flags w) e) events) (watched_from (suc place) (sees w e) events)
-    (λ n. ap (λ k. break_from (suc place) k events) alike.known
-    ∙ breaks_alike (suc place) (flags_after flags e) (sees w e) events alike.shut n h.1)
+    alike.first c position (break_from (suc position) (known_after (known_of flags w) e) events)
+    ∙ later_only position (sees w e).clause (break_from (suc position) (known_after (known_of flags w) e) events) (watched_from (suc position) (sees w e) events)
+    (λ n. ap (λ k. break_from (suc position) k events) alike.known
+    ∙ breaks_alike (suc position) (flags_after flags e) (sees w e) events alike.shut n h.1)
 
--- the first break of orderly events is that by which drivers are judged
+-- the first break of orderly events is the one that judges drivers
 pub first_alike : (class : Class) (size : ℕ) (events : List Event) → IsOrderlyFrom [] events
     → first_break class size events ≡ watched_first class size events
 unfolding first_break watched_first

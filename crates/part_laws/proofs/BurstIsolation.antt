@@ -17,11 +17,11 @@ use Rattle.machine_defs.proofs.MachineCases.{is_code_at, past_decode, past_fetch
 use Rattle.machine_defs.specs.Machine.{decode_of}
 use Rattle.machine_defs.specs.Pages.{may_write, read_word, fetch_word}
 use Rattle.part_defs.specs.State.{DomainState}
-use Rattle.machine_defs.specs.Turn.{Machine, turn, executed, past_input, past_output, stores, r}
+use Rattle.machine_defs.specs.Execution.{Machine, turn, executed, past_input, past_output, stores, r}
 use Rattle.machine_defs.proofs.BurstKeeps.{split, every_fault, burst_keeps}
 use Rattle.part_laws.specs.BurstLaws.{IsIsolatedBurst}
 
--- memory after a turn: as it was, or with one word that the driver may write
+-- memory after an instruction: unchanged, or with one word changed that the driver may write
 abbrev IsWrite : List Entry → List ℕ → List ℕ → Type 0
 IsWrite entries before after =
     (after ≡ before)
@@ -72,19 +72,19 @@ turn_writes entries m = fetch_writes entries m (fetch_word m.memory m.cpu.counte
 
 -- one word
 
-other_place : (entries : List Entry) (a b : ℕ) → may_write entries a ≡ false → may_write entries b ≡ true → a ≢ b
-other_place entries a b no' yes' e = both_ways (may_write entries b) (subst (λ x. may_write entries x ≡ false) e no') yes'
+other_position : (entries : List Entry) (a b : ℕ) → may_write entries a ≡ false → may_write entries b ≡ true → a ≢ b
+other_position entries a b no' yes' e = both_ways (may_write entries b) (subst (λ x. may_write entries x ≡ false) e no') yes'
 
 write_keeps_word : (entries : List Entry) (a : ℕ) (before after : List ℕ) → may_write entries a ≡ false
     → IsWrite entries before after → slice_index after a ≡ slice_index before a
 write_keeps_word entries a before after h (inl e) = ap (λ (xs : List ℕ). slice_index xs a) e
 write_keeps_word entries a before after h (inr w) =
-    ap (λ (xs : List ℕ). slice_index xs a) w.3 ∙ get_or-set_other before w.0 a w.1 0 (other_place entries a w.0 h w.2)
+    ap (λ (xs : List ℕ). slice_index xs a) w.3 ∙ get_or-set_other before w.0 a w.1 0 (other_position entries a w.0 h w.2)
 
 poke_keeps_word : (entries : List Entry) (a address value : ℕ) (memory : List ℕ) → may_write entries a ≡ false
     → slice_index (struck_memory entries (fault.Poke address value) memory) a ≡ slice_index memory a
 poke_keeps_word entries a address value memory h = split (may_write entries address)
-    (λ e. rw e (get_or-set_other memory address a value 0 (other_place entries a address h e)))
+    (λ e. rw e (get_or-set_other memory address a value 0 (other_position entries a address h e)))
     (λ e. rw e)
 
 code_keeps_word : (entries : List Entry) (a address value : ℕ) (memory : List ℕ)
@@ -155,7 +155,7 @@ burst_isolated entries faults m = record {
   same_length = burst_keeps_length entries faults m;
 }
 
--- so it is of a domain's burst
+-- the same of a domain's burst
 burst_by_within : (context : ℕ) (faults : List Fault) (d : DomainState) (o : Option Context)
     → ChangesOnlyAllowed d.entries faults d.memory (burst_by context faults d o).domain.memory
 burst_by_within context faults d None = λ address no_right unnamed. refl

@@ -17,44 +17,44 @@ use Rattle.part_defs.specs.Domain.{DomainBurst, context_of, domain_burst, machin
 use Rattle.promise_defs.specs.Ideal.{ran}
 use Rattle.part_defs.specs.Log.{call_of_thread}
 use Rattle.part_defs.proofs.PartCases.{burst_by, burst_step, is_of_thread, number_of_call, with_burst}
-use Rattle.nook_data.specs.Places.{at_number}
+use Rattle.nook_data.specs.Numbered.{at_number}
 use Rattle.part_defs.specs.State.{DomainState, PartState}
 use Rattle.part_defs.specs.Steps.{can_burst, is_driven, is_inside, is_running, served_number, burst_stepped}
 use Rattle.machine_defs.specs.BurstFaults.{faults_of_burst}
 use Rattle.promise_defs.specs.Trace.{shown_acts, shown_option}
 use Rattle.part_laws.specs.Counts.{count_acts}
 use Rattle.part_laws.specs.Balance.{held_at, Balanced}
-use Rattle.part_laws.specs.ActsOn.{dev_of, acts_on, Tells}
+use Rattle.part_laws.specs.ActsOn.{dev_of, acts_on, Reports}
 use Rattle.part_laws.specs.Facts.{At, Facts}
 use Rattle.part_laws.specs.Views.{Past, Call, core_of, cores, entry_of, stage_of, view_of, watch_of, ideal_of, tracks_of}
 use Rattle.part_laws.proofs.ActLists.{ActsOk, acts_ok}
 use Rattle.part_laws.proofs.Acting.{with_dev, Active}
 use Rattle.part_laws.proofs.Acts.{Serves}
-use Rattle.part_laws.proofs.ActsTell.{acts_tell}
+use Rattle.part_laws.proofs.ActsDetermine.{acts_determine}
 use Rattle.part_laws.proofs.Balances.{held_active}
 use Rattle.part_laws.proofs.Contexts.{driven_set}
 use Rattle.part_laws.proofs.Crossed.{Bursts, crossing_ok}
 use Rattle.part_laws.proofs.Crossings.{CrossOk}
 use Rattle.part_laws.proofs.Enters.{running_mode}
 use Rattle.part_laws.proofs.OpenCalls.{Found, open_find}
-use Rattle.part_laws.proofs.Places.{split, from_map}
+use Rattle.part_laws.proofs.Indices.{split, from_map}
 use Rattle.part_laws.specs.Recovery.{StepKeeps}
-use Rattle.part_laws.proofs.Watching.{wanted_met}
+use Rattle.part_laws.proofs.Watching.{required_met}
 
--- A burst: its acts, and then its crossing.
+-- A burst: its acts, followed by its crossing.
 
--- ---- no crossing mends a broken clause
+-- ---- no crossing clears a broken clause
 
 owes_clause : (c : Watched) (o : Op) (a : Answer) (w : Watch) → owes c o a w ≡ None → w.clause ≡ None
-owes_clause c (Write first words) answered.Done w h = (wanted_met _ 3 w.clause h).1
-owes_clause c (Read first count) (answered.Blocks words) w h = (wanted_met _ 4 w.clause h).1
-owes_clause c (Send frame) answered.Done w h = (wanted_met _ 7 w.clause h).1
-owes_clause c Recv a w h = (wanted_met _ 9 w.clause h).1
-owes_clause c (Play samples) answered.Done w h = (wanted_met _ 11 w.clause h).1
-owes_clause c (Set key value) answered.Done w h = (wanted_met _ 13 w.clause h).1
-owes_clause c (Get key) (answered.Value word) w h = (wanted_met _ 14 w.clause h).1
-owes_clause c (Read first count) (answered.IoError block) w h = (wanted_met _ 15 w.clause h).1
-owes_clause c (Write first words) (answered.IoError block) w h = (wanted_met _ 15 w.clause h).1
+owes_clause c (Write first words) answered.Done w h = (required_met _ 3 w.clause h).1
+owes_clause c (Read first count) (answered.Blocks words) w h = (required_met _ 4 w.clause h).1
+owes_clause c (Send frame) answered.Done w h = (required_met _ 7 w.clause h).1
+owes_clause c Recv a w h = (required_met _ 9 w.clause h).1
+owes_clause c (Play samples) answered.Done w h = (required_met _ 11 w.clause h).1
+owes_clause c (Set key value) answered.Done w h = (required_met _ 13 w.clause h).1
+owes_clause c (Get key) (answered.Value word) w h = (required_met _ 14 w.clause h).1
+owes_clause c (Read first count) (answered.IoError block) w h = (required_met _ 15 w.clause h).1
+owes_clause c (Write first words) (answered.IoError block) w h = (required_met _ 15 w.clause h).1
 owes_clause c o a w h = h
 
 found_clause : (c : Option Watched) (a : Answer) (w : Watch) → owes_found c a w ≡ None → w.clause ≡ None
@@ -64,34 +64,34 @@ found_clause (Some c) a w h = owes_clause c c.op a w h
 crossing_clause : (n : ℕ) (e : End) (a : Option Answer) (failure : Option FailCause) (w : Watch)
     → (sees_crossing n e a failure w).clause ≡ None → w.clause ≡ None
 crossing_clause n e a (Some cause) w h = h
-crossing_clause n (ends.Service service first second result moved) a None w h = (wanted_met _ 8 w.clause h).1
+crossing_clause n (ends.Service service first second result moved) a None w h = (required_met _ 8 w.clause h).1
 crossing_clause n (ends.Reply status) (Some a) None w h = found_clause (at_number n w.calls) a w h
-crossing_clause n (ends.Reply status) None None w h = (wanted_met _ 13 w.clause h).1
+crossing_clause n (ends.Reply status) None None w h = (required_met _ 13 w.clause h).1
 crossing_clause n ends.Pause a None w h = h
 crossing_clause n ends.Trap a None w h = h
 
--- ---- what a burst leaves
+-- ---- what holds after a burst
 
-record BurstTells (d : DomainState) (x : DomainBurst) : Type 0 where
-  tells : Tells (dev_of d.device) (dev_of x.domain.device) x.acts
+record BurstReports (d : DomainState) (x : DomainBurst) : Type 0 where
+  reports : Reports (dev_of d.device) (dev_of x.domain.device) x.acts
   driven : is_some (context_of 16 x.domain.contexts) ≡ is_some (context_of 16 d.contexts)
   contexts : length x.domain.contexts ≡ 17
 
-burst_tells : (context : ℕ) (faults : List Fault) (d : DomainState) → length d.contexts ≡ 17 → BurstTells d (domain_burst context faults d)
+burst_reports : (context : ℕ) (faults : List Fault) (d : DomainState) → length d.contexts ≡ 17 → BurstReports d (domain_burst context faults d)
 unfolding domain_burst
-burst_tells context faults d l = by_context (context_of context d.contexts) refl
+burst_reports context faults d l = by_context (context_of context d.contexts) refl
   where
-    by_context : (o : Option Context) → context_of context d.contexts ≡ o → BurstTells d (burst_by context faults d o)
-    by_context None e = record { tells = record { made = refl; fit = tt }; driven = refl; contexts = l }
+    by_context : (o : Option Context) → context_of context d.contexts ≡ o → BurstReports d (burst_by context faults d o)
+    by_context None e = record { reports = record { made = refl; fit = tt }; driven = refl; contexts = l }
     by_context (Some x) e = record {
-      tells = acts_tell d.entries faults (machine_of x d);
+      reports = acts_determine d.entries faults (machine_of x d);
       driven = driven_set d.contexts context (Some _) l (sym (ap is_some e));
       contexts = length-set d.contexts context (Some _) ∙ l;
     }
 
 -- ---- the step
 
--- whose burst it is, before it
+-- the call that the burst serves, before it
 record Begins (p : PartState) (b : Past) (context : ℕ) : Type 0 where
   call : CallEntry
   active : Active (view_of p)
@@ -127,7 +127,7 @@ begins p b context f h = split (eqb context 16)
     other t (r, i) = by_call (call_of_thread context p.log.pending) refl i
       where
         with_call : (e : CallEntry) → call_of_thread context p.log.pending ≡ Some e → e.inside ≡ true → (g : Found 1 (cores b) context e)
-            → (c : Call) × At b.calls g.place c × (g.core ≡ core_of c) → Begins p b context
+            → (c : Call) × At b.calls g.index c × (g.core ≡ core_of c) → Begins p b context
         with_call e q j g (c, at, s) = record {
           call = e;
           active = inl (running_mode p.mode r);
@@ -135,16 +135,16 @@ begins p b context f h = split (eqb context 16)
           whose = λ p' after pending m driven ld held f' l z. by_serves p' after pending m ld held f' l (subst (λ n. Serves n e after) count z);
         }
           where
-            entry : e ≡ entry_of (suc g.place) c.core
+            entry : e ≡ entry_of (suc g.index) c.core
             entry = g.entry ∙ ap₂ (λ n x. entry_of n x) (omega arith) s
 
-            count : served_number context p ≡ suc g.place
+            count : served_number context p ≡ suc g.index
             count = cond-false (eqb context 16) 0 number t ∙ ap number_of_call q ∙ ap (λ x. x.call) entry
 
             by_serves : (p' : PartState) (after : Past) → p'.log.pending ≡ p.log.pending → p'.mode ≡ p.mode → length p'.log.defaults ≡ 4
                 → ((rest : List (List ℕ)) → held_at (stage_of p'.mode) rest ≡ length rest)
                 → Facts (view_of p') after → length p'.domain.contexts ≡ 17
-                → (d : Call) × At after.calls g.place d × (d.core.inside ≡ true) × (e ≡ entry_of (suc g.place) d.core)
+                → (d : Call) × At after.calls g.index d × (d.core.inside ≡ true) × (e ≡ entry_of (suc g.index) d.core)
                 → Bursts p' after context (served_number context p)
             by_serves p' after pending m ld held f' l (d, hd, id, ed) = record {
               facts = f';
@@ -154,7 +154,7 @@ begins p b context f h = split (eqb context 16)
               whose = inr (
                 t,
                 (
-                  g.place,
+                  g.index,
                   count,
                   (
                     d,
@@ -170,11 +170,11 @@ begins p b context f h = split (eqb context 16)
         by_call (Some e) q j = with_found (open_find 1 (cores b) context e (ap (find (is_of_thread context)) (sym f.pending) ∙ q))
           where
             with_found : Found 1 (cores b) context e → Begins p b context
-            with_found g = with_call e q j g (from_map core_of b.calls g.place g.core g.at)
+            with_found g = with_call e q j g (from_map core_of b.calls g.index g.core g.at)
 
-past_burst_ok : (p : PartState) (b : Past) (context : ℕ) (x : DomainBurst) → Facts (view_of p) b → BurstTells p.domain x → Begins p b context
+past_burst_ok : (p : PartState) (b : Past) (context : ℕ) (x : DomainBurst) → Facts (view_of p) b → BurstReports p.domain x → Begins p b context
     → (sees (watch_of (view_of p) b) (burst_step context p x).event).clause ≡ None → StepKeeps p b (burst_step context p x)
-past_burst_ok p b context x f t u h = with_acts (acts_ok x.acts (view_of p) b n u.call f u.active u.serves t.tells.fit
+past_burst_ok p b context x f t u h = with_acts (acts_ok x.acts (view_of p) b n u.call f u.active u.serves t.reports.fit
     (crossing_clause n c.end c.answer c.failure (sees_acts n x.acts (watch_of (view_of p) b)) h))
   where
     n : ℕ
@@ -187,7 +187,7 @@ past_burst_ok p b context x f t u h = with_acts (acts_ok x.acts (view_of p) b n 
     c = after_crossing context x.ending (with_burst x.domain p)
 
     seen : with_dev (acts_on x.acts (view_of p).dev) (view_of p) ≡ view_of (with_burst x.domain p)
-    seen = ap₂ (λ d t. record (view_of p) { dev = d; driven = t }) (sym t.tells.made) (sym t.driven)
+    seen = ap₂ (λ d t. record (view_of p) { dev = d; driven = t }) (sym t.reports.made) (sym t.driven)
 
     with_acts : ActsOk (view_of p) b n u.call x.acts → StepKeeps p b (burst_step context p x)
     with_acts a = joined (crossing_ok q a.after context n x.ending
@@ -222,4 +222,4 @@ pub burst_ok : (p : PartState) (b : Past) (context : ℕ) → Facts (view_of p) 
     → (sees (watch_of (view_of p) b) (burst_stepped context p).event).clause ≡ None → StepKeeps p b (burst_stepped context p)
 unfolding burst_stepped
 burst_ok p b context f l c h = past_burst_ok p b context (domain_burst context (faults_of_burst (p.bursts + 1) p.spec.faults) p.domain) f
-    (burst_tells context (faults_of_burst (p.bursts + 1) p.spec.faults) p.domain l) (begins p b context f c) h
+    (burst_reports context (faults_of_burst (p.bursts + 1) p.spec.faults) p.domain l) (begins p b context f c) h

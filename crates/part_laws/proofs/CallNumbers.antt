@@ -1,4 +1,4 @@
--- In a run a call that is open was invoked by its thread alone, and nothing has answered it.
+-- In a run only its thread invoked a call that is open, and nothing has answered it.
 use Rattle.std.proofs.Common.{◌≡◌, ◌⊎◌, ℕ, ◌+◌, ◌<◌, ◌≤◌, Bool, true, false, not, cond, Option, Some, None, List, [], ◌∷◌, ◌++◌, map, filter, subst, sym, refl, inl, inr, arith}
 use Rattle.std.specs.Prelude.{if◌then◌else◌, ◌==◌}
 use Rattle.std.specs.List.{AllByRecursion}
@@ -25,11 +25,11 @@ abbrev pub InvokesAbove : ℕ → Event → Type 0
 InvokesAbove count (event.Invoke c t o answer) = count < c
 InvokesAbove count _ = Unit {0}
 
--- it does not answer the call, and invokes it for its thread alone
+-- the event does not answer the call, and invokes it only for its thread
 abbrev pub Quiet : ℕ → ℕ → Event → Type 0
 Quiet call thread e = (answer_at call e ≡ None) × InvokesBy call thread e
 
--- an open call with this number of this thread
+-- this thread has an open call with this number
 abbrev pub HasEntry : List CallEntry → ℕ → ℕ → Type 0
 HasEntry [] call thread = ⊥
 HasEntry (c ∷ pending) call thread = ((c.call ≡ call) × (c.thread ≡ thread)) ⊎ HasEntry pending call thread
@@ -37,7 +37,7 @@ HasEntry (c ∷ pending) call thread = ((c.call ≡ call) × (c.thread ≡ threa
 abbrev pub CameFrom : CallLog → ℕ → ℕ → Type 0
 CameFrom log call thread = HasEntry log.pending call thread ⊎ (log.count < call)
 
--- what a step does to the log, and what its event tells of it
+-- what a step does to the log, and what its event says of it
 pub record LogStepped (a b : CallLog) (e : Event) : Type 0 where
   pub numbered : IsNumbered 0 b.count b.pending
   pub more : a.count ≤ b.count
@@ -89,7 +89,7 @@ numbered_map f low count (x ∷ xs) k h =
 
 -- ---- what stays open
 
--- of each open call P holds
+-- P holds of each open call
 abbrev pub AllOpen : (ℕ → ℕ → Type 0) → List CallEntry → Type 0
 AllOpen P xs = AllByRecursion (λ x. P x.call x.thread) xs
 
@@ -203,7 +203,7 @@ others_left call (x ∷ xs) = by_test (x.call == call) refl (others_left call xs
     by_test true q r = subst (λ b. AllOpen (λ c t. call ≡ c → ⊥) (cond (not b) (x ∷ rest) rest)) (sym q) r
     by_test false q r = subst (λ b. AllOpen (λ c t. call ≡ c → ⊥) (cond (not b) (x ∷ rest) rest)) (sym q) ((λ e. apart x.call call q e), r)
 
--- a call is answered by an event that answers it alone
+-- a call is answered by an event that answers no other
 pub stepped_answered : (a b : CallLog) (e : Event) (call : ℕ) → IsNumbered 0 a.count a.pending → call ≤ a.count → b.pending ≡ filter (λ c. not (is_call call c)) a.pending → b.count ≡ a.count
     → ((c t : ℕ) → (call ≡ c → ⊥) → Quiet c t e) → ((count : ℕ) → InvokesAbove count e) → LogStepped a b e
 stepped_answered a b e call h l p n s f = record {
@@ -217,7 +217,7 @@ stepped_answered a b e call h l p n s f = record {
   beyond = λ c t m. s c t (λ q. absurd (omega arith));
 }
 
--- open calls are changed but for number and thread
+-- open calls change, except for number and thread
 pub stepped_changed : (a b : CallLog) (e : Event) (f : CallEntry → CallEntry) → KeepsCall f → IsNumbered 0 a.count a.pending → b.pending ≡ map f a.pending → b.count ≡ a.count → Silent e → LogStepped a b e
 stepped_changed a b e f k h p n s = record {
   numbered = subst (λ c. IsNumbered 0 c b.pending) (sym n) (subst (λ xs. IsNumbered 0 a.count xs) (sym p) (numbered_map f 0 a.count a.pending k h));

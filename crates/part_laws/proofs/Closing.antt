@@ -16,9 +16,9 @@ use Rattle.part_laws.specs.Views.{View, Past, Core, Call, core_of, cores, open_f
 use Rattle.part_laws.proofs.Acts.{ran_step, when_true}
 use Rattle.part_laws.proofs.Keeping.{Less, AllLess, calls_less, all_less_set}
 use Rattle.part_laws.proofs.OpenCalls.{open_close}
-use Rattle.part_laws.proofs.Places.{get_map, get_set, map_set}
+use Rattle.part_laws.proofs.Indices.{get_map, get_set, map_set}
 
--- A call is answered: it is open no more.
+-- A call is answered: it is no longer open.
 
 -- ---- the never-failing device answers an open call
 
@@ -32,12 +32,12 @@ due_shown m m' k o a stored more h w d e = ran_step m m' (answer (suc k) a store
     (and_from o.waits (is_due (closes (suc k) m) o a) w d)
     ∙ ap Some e)
 
--- an answer that may come to a call, and the device that it leaves
+-- an answer that a call may get, and the device after it
 pub record Comes (m : Ideal) (thread : ℕ) (o : Op) (a : Answer) (stored : List ℕ) (m' : Ideal) : Type 0 where
   pub may : may_answer m thread o a ≡ true
   pub after : after_answer m thread o a stored ≡ m'
 
--- it is due where the static check gives none
+-- it is due if the static check gives no answer
 pub comes_due : (m : Ideal) (o : Opened) (a : Answer) → static_check m.class m.size o.op ≡ None
     → may_answer m o.thread o.op a ≡ true → is_due m o a ≡ true
 comes_due m o a c e = rw (c, is_due) e
@@ -48,7 +48,7 @@ pub answer_shown : (m m' : Ideal) (k : ℕ) (o : Opened) (a : Answer) (stored : 
 answer_shown m m' k o a stored more h w c e =
     due_shown m m' k o a stored more h w (comes_due (closes (suc k) m) o a c e.may) e.after
 
--- a pending frame comes to a Recv
+-- a Recv gets a pending frame
 pub frame_comes : (m : Ideal) (thread : ℕ) (frame : List ℕ) (stored : List ℕ) (pending : List (List ℕ))
     → after_frame frame m.pending ≡ Some pending
     → Comes m thread Recv (answered.Frame frame) stored (record m { pending = pending })
@@ -81,7 +81,7 @@ abbrev pub closed_view : ℕ → List ℕ → Option ℕ → List (List ℕ) →
 closed_view n config holder queue v =
     record v { pending = filter (λ c. not (is_call n c)) v.pending; config = config; holder = holder; queue = queue }
 
--- what is to be shown for the facts behind an answer
+-- what must be shown for the facts after an answer
 pub record ClosedFacts (v : View) (b : Past) (k : ℕ) (d : Call) (config : List ℕ) (holder : Option ℕ) (queue : List (List ℕ))
     (plain frames : List (List ℕ)) : Type 0 where
   pub keys : length config ≡ 4

@@ -5,7 +5,7 @@ use Rattle.nook_data.specs.declared.machine.Context.{Context}
 use Rattle.part_defs.specs.Domain.{context_of}
 use Rattle.part_defs.proofs.PartCases.{no_context, with_result}
 use Rattle.part_laws.specs.Facts.{At}
-use Rattle.part_laws.proofs.Places.{get_set_same, get_set_other}
+use Rattle.part_laws.proofs.Indices.{get_set_same, get_set_other}
 
 -- Whether the shadow's own context is Inside.
 
@@ -32,11 +32,11 @@ other_set cs k x n = ap is_some (context_same (slice_set cs k x) cs 16 (get_set_
 -- a context is set, and stays free or Inside
 pub driven_set : (cs : List (Option Context)) (k : ℕ) (x : Option Context) → length cs ≡ 17 → is_some x ≡ is_some (context_of k cs)
     → is_some (context_of 16 (slice_set cs k x)) ≡ is_some (context_of 16 cs)
-driven_set cs k x l s = by_place (cases_eq 16 k)
+driven_set cs k x l s = by_position (cases_eq 16 k)
   where
-    by_place : (16 ≡ k) ⊎ (16 ≡ k → ⊥) → is_some (context_of 16 (slice_set cs k x)) ≡ is_some (context_of 16 cs)
-    by_place (inl e) = ap (λ j. is_some (context_of 16 (slice_set cs j x))) (sym e) ∙ ap is_some (shadow_set cs x l) ∙ s ∙ ap (λ j. is_some (context_of j cs)) (sym e)
-    by_place (inr n) = other_set cs k x n
+    by_position : (16 ≡ k) ⊎ (16 ≡ k → ⊥) → is_some (context_of 16 (slice_set cs k x)) ≡ is_some (context_of 16 cs)
+    by_position (inl e) = ap (λ j. is_some (context_of 16 (slice_set cs j x))) (sym e) ∙ ap is_some (shadow_set cs x l) ∙ s ∙ ap (λ j. is_some (context_of j cs)) (sym e)
+    by_position (inr n) = other_set cs k x n
 
 pub result_some : (word : ℕ) (o : Option Context) → is_some (with_result word o) ≡ is_some o
 result_some word None = refl

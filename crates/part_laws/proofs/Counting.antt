@@ -1,4 +1,4 @@
--- Over orderly events the counts are those that are told.
+-- Over orderly events the counts are those that are reported.
 use Rattle.std.proofs.Common.{◌≡◌, ◌⊎◌, inl, inr, ℕ, zero, suc, ◌+◌, ◌-◌, ◌||◌, ◌&&◌, not, Bool, true, false, cond, Option, Some, None, List, [], ◌∷◌, ◌++◌, map, length, filter, find, sym, refl, ap, ap₂, ◌∙◌, subst, arith, sum_by, count_by, is_some}
 use Rattle.std.specs.Prelude.{◌==◌, if◌then◌else◌, fold, flat_map}
 use Rattle.std.specs.List.{list_any}
@@ -12,26 +12,26 @@ use Rattle.nook_data.specs.declared.steps.End.{End}
 use Rattle.nook_data.specs.declared.steps.End.TheVariants as end
 use Rattle.nook_data.specs.declared.steps.Event.{Event}
 use Rattle.nook_data.specs.declared.steps.Event.TheVariants as event
-use Rattle.nook_data.specs.declared.verdicts.Losses.{Losses as Told}
+use Rattle.nook_data.specs.declared.verdicts.Losses.{Losses as Determined}
 use Rattle.nook_data.specs.declared.calls.Op.{Op}
 use Rattle.nook_data.specs.declared.calls.Op.TheVariants as op
 use Rattle.nook_data.specs.declared.steps.Stage.{Stage}
 use Rattle.nook_data.specs.declared.steps.Stage.TheVariants as stage
-use Rattle.part_laws.specs.Counts.{Counted, Counts, count_act, count_acts, count_answer, count_answered, count_answers, count_event, count_handed, count_option, count_stage, counted, no_counts, samples_of, sends_of, told, is_done as was_done, is_busy as was_busy, is_frame, lost_samples as samples_lost, lost_sends as sends_lost, counted_losses}
+use Rattle.part_laws.specs.Counts.{Counted, Counts, count_act, count_acts, count_answer, count_answered, count_answers, count_event, count_handed, count_option, count_stage, counted, no_counts, samples_of, sends_of, reported, is_done as was_done, is_busy as was_busy, is_frame, lost_samples as samples_lost, lost_sends as sends_lost, counted_losses}
 use Rattle.promise_defs.specs.Losses.{handed_result as result_in, one_if as as_one}
-use Rattle.nook_data.specs.Places.{at_number, change_number}
-use Rattle.part_laws.proofs.Places.{split}
+use Rattle.nook_data.specs.Numbered.{at_number, change_number}
+use Rattle.part_laws.proofs.Indices.{split}
 use Rattle.nook_data.specs.Answers.{answers_of, one_answer}
-use Rattle.promise_defs.specs.Losses.{FramePlaces, Tally, all_answers, handed_result, in_driver, in_ring, is_arrival}
+use Rattle.promise_defs.specs.Losses.{FrameLocations, CallEffects, all_answers, handed_result, in_driver, in_ring, is_arrival}
 use Rattle.promise_defs.specs.Losses.{is_busy, is_done, is_lost_arrival, is_popped, is_received, is_refused, is_taken}
-use Rattle.promise_defs.specs.Losses.{lost_by, lost_from, losses, no_places, one_if, places_after, tallies_after}
-use Rattle.promise_defs.specs.Losses.{tallies_during}
+use Rattle.promise_defs.specs.Losses.{lost_by, lost_from, losses, no_locations, one_if, locations_after, call_effects_after}
+use Rattle.promise_defs.specs.Losses.{call_effects_during}
 use Rattle.promise_defs.proofs.PromiseChanges.{unplayed, unsent, with_acts}
-use Rattle.part_laws.specs.Orderly.{AreOwn, IsFitting, IsOrderlyFrom, flags_after, flags_during, is_open, is_told, kept_from}
+use Rattle.part_laws.specs.Orderly.{AreOwn, IsFitting, IsOrderlyFrom, flags_after, flags_during, is_open, is_reported, kept_from}
 use Rattle.part_laws.proofs.Picked.{at_one, change_at, change_one, find_at}
-use Rattle.part_laws.proofs.Tallies.{AreTold, acts_calls, counted_acts, handed_calls, tallied, tallied_answers, tallied_change, tallied_kept, tallied_push, tally_of, told_answers, told_change, told_push}
+use Rattle.part_laws.proofs.Effects.{AreReported, acts_calls, counted_acts, handed_calls, tallied, tallied_answers, tallied_change, tallied_kept, tallied_push, effects_of, reported_answers, reported_change, reported_push}
 
--- ---- an event, its answers last
+-- ---- an event, with its answers last
 
 abbrev pub before_answers : Counts → Event → Counts
 before_answers n (event.Invoke call thread o a) = record n { calls = n.calls ++ counted o ∷ [] }
@@ -94,7 +94,7 @@ new_one : (b : Bool) → as_one b ≡ one_if b
 new_one true = refl
 new_one false = refl
 
--- a record of counts with what acts change
+-- counts with the changes that acts make
 abbrev with_acted : Counts → List Counted → ℕ → ℕ → Counts
 with_acted n calls x y = record n { calls = calls; popped = x; popped_since = y }
 
@@ -148,8 +148,8 @@ same_result end.Trap = refl
 
 -- ---- what an event adds before its answers
 
-abbrev pub places_of : Counts → FramePlaces
-places_of n = record
+abbrev pub locations_of : Counts → FrameLocations
+locations_of n = record
     { kept = n.kept; popped = n.popped; cleared = n.cleared; popped_since = n.popped_since; handed_since = n.handed_since; reset = n.reset }
 
 pub record Adds (n m : Counts) (e : Event) : Type 0 where
@@ -161,7 +161,7 @@ pub record Adds (n m : Counts) (e : Event) : Type 0 where
   pub taken : m.taken ≡ n.taken + one (is_taken e)
   pub refused : m.refused ≡ n.refused + one (is_refused e)
   pub lost : m.lost ≡ n.lost + one (is_lost_arrival e)
-  pub places : places_of m ≡ places_after (places_of n) e
+  pub locations : locations_of m ≡ locations_after (locations_of n) e
 
 -- a burst's acts, and the frame that it hands up
 abbrev after_burst : Counts → List Counted → List Act → Option ℕ → Counts
@@ -185,9 +185,9 @@ refuses_elim : (r : Option ℕ) → one (refuses r) ≡ one (elim r [ Some resul
 refuses_elim None = refl
 refuses_elim (Some result) = refl
 
--- an event that adds nothing but to its calls
+-- an event that changes nothing but its calls
 adds_none : (n m : Counts) (e : Event) → record m { calls = n.calls } ≡ n → is_arrival e ≡ false → is_taken e ≡ false → is_refused e ≡ false
-    → is_lost_arrival e ≡ false → places_after (places_of n) e ≡ places_of n → Adds n m e
+    → is_lost_arrival e ≡ false → locations_after (locations_of n) e ≡ locations_of n → Adds n m e
 adds_none n m e s a t r l p = record {
   busy = ap (λ k. k.busy) s;
   received = ap (λ k. k.received) s;
@@ -197,7 +197,7 @@ adds_none n m e s a t r l p = record {
   taken = ap (λ k. k.taken) s ∙ none n.taken (is_taken e) t;
   refused = ap (λ k. k.refused) s ∙ none n.refused (is_refused e) r;
   lost = ap (λ k. k.lost) s ∙ none n.lost (is_lost_arrival e) l;
-  places = ap places_of s ∙ sym p;
+  locations = ap locations_of s ∙ sym p;
 }
   where
     none : (x : ℕ) (b : Bool) → b ≡ false → x ≡ x + one b
@@ -222,7 +222,7 @@ stage_adds n stage.Reset answers released = record {
   taken = omega arith;
   refused = omega arith;
   lost = omega arith;
-  places = refl;
+  locations = refl;
 }
 
 pub before_adds : (n : Counts) (e : Event) → Adds n (before_answers n e) e
@@ -238,7 +238,7 @@ before_adds n (event.Burst context call burst count e done a failure) = record {
   taken = ap (λ m. m.taken) is ∙ ap (λ k. n.taken + k) (takes_elim (handed_result e));
   refused = ap (λ m. m.refused) is ∙ ap (λ k. n.refused + k) (refuses_elim (handed_result e));
   lost = ap (λ m. m.lost) is ∙ omega arith;
-  places = ap places_of is;
+  locations = ap locations_of is;
 }
   where
     is : count_handed (result_in e) (count_acts call done n) ≡ after_burst n (count_acts call done n).calls done (handed_result e)
@@ -253,7 +253,7 @@ before_adds n (event.Arrive frame kept) = record {
   taken = omega arith;
   refused = omega arith;
   lost = ap (λ k. n.lost + k) (same_one (not kept));
-  places = ap (λ k. record (places_of n) { kept = n.kept + k }) (new_one kept);
+  locations = ap (λ k. record (locations_of n) { kept = n.kept + k }) (new_one kept);
 }
 
 -- ---- what answers change
@@ -332,9 +332,9 @@ pub lost_adds : (n : Counts) (e : Event) → (count_event n e).lost ≡ n.lost +
 lost_adds n e = ap (λ m. m.lost) (event_counted n e)
     ∙ answers_keep (λ m. m.lost) (λ call a m. refl) (answers_of e) (before_answers n e) ∙ (before_adds n e).lost
 
-pub places_add : (n : Counts) (e : Event) → places_of (count_event n e) ≡ places_after (places_of n) e
-places_add n e = ap places_of (event_counted n e)
-    ∙ answers_keep places_of (λ call a m. refl) (answers_of e) (before_answers n e) ∙ (before_adds n e).places
+pub positions_add : (n : Counts) (e : Event) → locations_of (count_event n e) ≡ locations_after (locations_of n) e
+positions_add n e = ap locations_of (event_counted n e)
+    ∙ answers_keep locations_of (λ call a m. refl) (answers_of e) (before_answers n e) ∙ (before_adds n e).locations
 
 pub busy_adds : (n : Counts) (e : Event) → (count_event n e).busy ≡ n.busy + count_by is_busy (answers_of e)
 busy_adds n e = ap (λ m. m.busy) (event_counted n e)
@@ -346,6 +346,6 @@ received_adds n e = ap (λ m. m.received) (event_counted n e)
     ∙ answers_count (λ m. m.received) is_received (λ a m. ap (λ k. m.received + k) (same_frame a.1)) (answers_of e) (before_answers n e)
     ∙ ap (λ k. k + count_by is_received (answers_of e)) (before_adds n e).received
 
-pub places_go : (n : Counts) (events : List Event) → places_of (fold count_event n events) ≡ fold places_after (places_of n) events
-places_go n [] = refl
-places_go n (e ∷ events) = places_go (count_event n e) events ∙ ap (λ x. fold places_after x events) (places_add n e)
+pub positions_go : (n : Counts) (events : List Event) → locations_of (fold count_event n events) ≡ fold locations_after (locations_of n) events
+positions_go n [] = refl
+positions_go n (e ∷ events) = positions_go (count_event n e) events ∙ ap (λ x. fold locations_after x events) (positions_add n e)

@@ -63,9 +63,9 @@ use Rattle.part_laws.specs.Bound.{is_invoke, carries_failure, is_arrival, is_bur
 use Rattle.part_laws.specs.Fit.{IsFitSpec, IsFit}
 use Rattle.part_laws.specs.Tied.{GoesOn, IsRunningCall, IsTiedCall, IsDriven, IsTied}
 
--- What a part counts is what its journal counts.
+-- The counts of a part are those of its journal.
 
--- the counts of a part after so many failures, calls, arrivals and bursts more
+-- the counts of a part after these numbers of failures, calls, arrivals and bursts are added
 pub record IsCounted (p q : PartState) (failures calls arrivals bursts : ℕ) : Type 0 where
   pub spec : q.spec ≡ p.spec
   pub failures' : q.failures ≡ p.failures + failures
@@ -169,7 +169,7 @@ admitted_counted : (p : PartState) (c : CallEntry) (a : Admit) → StepCounted p
 unfolding after_answering after_entering
 admitted_counted p c (admits.Reply a) = nothing_counted p _ refl refl refl refl refl
 admitted_counted p c admits.TakeFrame = nothing_counted p _ refl refl refl refl refl
-admitted_counted p c (admits.Enter place) = nothing_counted p _ refl refl refl refl refl
+admitted_counted p c (admits.Enter index) = nothing_counted p _ refl refl refl refl refl
 
 enter_counted : (p : PartState) (thread : ℕ) (o : Option CallEntry) → StepCounted p (entered_by p thread o)
 enter_counted p thread None = nothing_counted p p refl refl refl refl refl
@@ -248,7 +248,7 @@ counted_from p (e ∷ events) r =
 admitted_attempt : (p : PartState) (c : CallEntry) (a : Admit) → attempt_of (after_admit p c a).event ≡ c.attempts + 1
 admitted_attempt p c (admits.Reply a) = refl
 admitted_attempt p c admits.TakeFrame = refl
-admitted_attempt p c (admits.Enter place) = refl
+admitted_attempt p c (admits.Enter index) = refl
 
 enter_attempt : (p : PartState) (thread : ℕ) (o : Option CallEntry) → IsTied p → p.mode ≡ mode.Running → call_of_thread thread p.log.pending ≡ o
     → is_ready p o ≡ true → attempt_of (entered_by p thread o).event ≤ p.failures + 1

@@ -37,13 +37,13 @@ use Rattle.part_laws.proofs.Accepts.{with_op, Replies, Accepted, read_ok, read_e
 use Rattle.part_laws.proofs.Closing.{closed_view}
 use Rattle.part_laws.proofs.Contexts.{undriven, other_set, driven_set, result_some}
 use Rattle.part_laws.proofs.Crossings.{CrossOk, fails_cross, pause_cross, served_cross, rx_cross, next_ok, shadow_cross, accepted_cross}
-use Rattle.part_laws.proofs.Places.{split, get_map}
+use Rattle.part_laws.proofs.Indices.{split, get_map}
 use Rattle.part_laws.proofs.Served.{is_rx, checked_rx, queue_stays, queue_takes, takes_answer}
-use Rattle.part_laws.proofs.Watching.{wanted_met}
+use Rattle.part_laws.proofs.Watching.{required_met}
 
 -- The crossing of a burst, as the part does it.
 
--- what a crossing is to show, where it breaks no clause
+-- what must be shown of a crossing that breaks no clause
 abbrev pub Crosses : PartState → Past → ℕ → Crossed → Type 0
 Crosses q b n c = (sees_crossing n c.end c.answer c.failure (watch_of (view_of q) b)).clause ≡ None
     → CrossOk (view_of q) b n c.end c.answer c.failure (view_of c.state) × (length c.state.domain.contexts ≡ 17)
@@ -152,7 +152,7 @@ shadow_crosses q b n status f held l d ld = split (is_accepted status q)
           (next_ok q (cores b) (view_of q).dev.registers q.mode f.keys ld (f.driving d) f.replay f.booting
           (λ key. subst (λ t. KeyOf t key) d (f.registers key))
           (subst (λ t. is_replayed (replay_of t q.mode) (view_of q).dev.registers ≡ true) d
-          (wanted_met (is_replayed (replay_of (view_of q).driven q.mode) (view_of q).dev.registers) 13 None h).0))),
+          (required_met (is_replayed (replay_of (view_of q).driven q.mode) (view_of q).dev.registers) 13 None h).0))),
       length-set q.domain.contexts 16 no_context ∙ l,
     )
       where
@@ -198,7 +198,7 @@ io_ok v b k status block Close c r i o h = absurd (no_io Close status refl i)
 io_ok v b k status block (Get key) c r i o h = absurd (no_io (Get key) status refl i)
 io_ok v b k status block (Set key value) c r i o h = absurd (no_io (Set key value) status refl i)
 
--- object 0 alone is written where a Set is acknowledged
+-- only object 0 is written when a Set is acknowledged
 noted_device : (o : Op) (d : DomainState) → (noted_set o d).device ≡ d.device
 unfolding noted
 noted_device (Set key value) d = refl
@@ -223,7 +223,7 @@ noted_contexts (Play samples) d = refl
 noted_contexts Close d = refl
 noted_contexts (Get key) d = refl
 
--- the part behind an answer, as it is seen
+-- the part after an answer, as it is seen
 closed_seen : (q : PartState) (n : ℕ) (c : Core) → (16 ≡ c.thread → ⊥)
     → closed_view n (config_after c.op q.log.config) (holder_after c.thread c.op q.log.holder) (queue_after c.op q.queue) (view_of q)
     ≡ view_of (closes_call (entry_of n c) q)
@@ -279,7 +279,7 @@ call_crosses q b k status c r held l = split (eqb status 0)
 
 -- ---- every crossing
 
--- whose burst it was
+-- the call that the burst served
 pub record Bursts (q : PartState) (b : Past) (context n : ℕ) : Type 0 where
   pub facts : Facts (view_of q) b
   pub contexts : length q.domain.contexts ≡ 17

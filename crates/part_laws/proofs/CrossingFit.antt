@@ -27,9 +27,9 @@ use Rattle.part_defs.specs.Log.{call_of_thread, after_acknowledging, after_answe
 use Rattle.machine_defs.specs.Services.{Served, checked, served}
 use Rattle.part_defs.specs.State.{DomainState, CallLog, PartState}
 use Rattle.machine_defs.proofs.BurstKeeps.{split}
-use Rattle.part_laws.proofs.DomainFit.{DomainKept, left_kept, result_kept, noted_fit, noted_set_fit, noted_elsewhere, noted_there, noted_set_elsewhere, noted_set_told, noted_set_kernel, config_length}
+use Rattle.part_laws.proofs.DomainFit.{DomainKept, left_kept, result_kept, noted_fit, noted_set_fit, noted_elsewhere, noted_there, noted_set_elsewhere, noted_set_reported, noted_set_kernel, config_length}
 use Rattle.part_laws.proofs.EntriesFit.{filter_fits}
-use Rattle.part_laws.proofs.Objects.{SameObjects, nothing_changed, object_stays, failures_told}
+use Rattle.part_laws.proofs.Objects.{SameObjects, nothing_changed, object_stays, failures_reported}
 use Rattle.part_laws.proofs.ServicesFit.{Says, checked_says, ServedKept, served_kept}
 use Rattle.part_laws.specs.Fit.{IsFitDomain, IsFitCall, IsFitLog, IsFit}
 
@@ -38,7 +38,7 @@ use Rattle.part_laws.specs.Fit.{IsFitDomain, IsFitCall, IsFitLog, IsFit}
 pub unmoved : (p : PartState) → IsFit p → DomainKept (heap_start p) p.domain p.domain
 unmoved p f = record { fit = f.domain; objects = nothing_changed p.domain.memory }
 
--- a part fits whose domain keeps the objects and whose record is as it was
+-- a part fits if its domain keeps the objects and its record does not change
 pub quiet : (p : PartState) (d : DomainState) (log : CallLog) (queue : List (List ℕ)) (m : Mode) (bursts arrived : ℕ) → IsFit p
     → DomainKept (heap_start p) p.domain d → IsFitLog p.spec.class p.spec.blocks log → log.config ≡ p.log.config
     → IsFit (record p { domain = d; log = log; queue = queue; mode = m; bursts = bursts; arrived = arrived })
@@ -46,12 +46,12 @@ quiet p d log queue m bursts arrived f k l e = record {
   spec = f.spec;
   domain = k.fit;
   log = l;
-  told = object_stays 0 p.domain.memory d.memory k.objects ∙ f.told
+  reported = object_stays 0 p.domain.memory d.memory k.objects ∙ f.reported
       ∙ ap (λ (config : List ℕ). config ++ (p.failures ∷ replicate 59 0)) (sym e);
 }
 
--- the part after a crossing fits; an object 1 to 12 is as it was, or was borrowed and is given back; object 0 is as it was,
--- or is noted
+-- the part after a crossing fits; an object 1 to 12 is unchanged, or was borrowed and is given back; object 0 is
+-- unchanged or written
 pub record CrossKept (context : ℕ) (p : PartState) (c : Crossed) : Type 0 where
   pub fit : IsFit c.state
   pub objects : (object : ℕ) → 1 ≤ object → object ≤ 12 → (object_of object c.state ≡ object_of object p)
@@ -84,9 +84,9 @@ failed_kept context p e cause f = record {
     spec = f.spec;
     domain = noted_fit (heap_start p) 4 (p.failures + 1) (without_shadow p.domain) (without_shadow_fit (heap_start p) p.domain f.domain);
     log = f.log;
-    told = noted_there 4 (p.failures + 1) (without_shadow p.domain)
-        ∙ ap (λ (xs : List ℕ). slice_set xs 4 (p.failures + 1)) f.told
-        ∙ failures_told p.log.config p.failures (p.failures + 1) (replicate 59 0) f.log.config;
+    reported = noted_there 4 (p.failures + 1) (without_shadow p.domain)
+        ∙ ap (λ (xs : List ℕ). slice_set xs 4 (p.failures + 1)) f.reported
+        ∙ failures_reported p.log.config p.failures (p.failures + 1) (replicate 59 0) f.log.config;
   };
   objects = λ object one twelve. inl (noted_elsewhere object 4 (p.failures + 1) (without_shadow p.domain) one (omega arith));
   kernel = inr refl;
@@ -110,7 +110,7 @@ serve_kept number context p (Ok s) f h =
         spec = f.spec;
         domain = r.fit;
         log = f.log;
-        told = object_stays 0 d.memory (result_set context v.answer d).memory r.objects ∙ k.kernel ∙ f.told;
+        reported = object_stays 0 d.memory (result_set context v.answer d).memory r.objects ∙ k.kernel ∙ f.reported;
       };
       objects = λ object one twelve. elim (k.objects object) [
         | inl e ↦ inl (object_stays object d.memory (result_set context v.answer d).memory r.objects ∙ e)
@@ -145,9 +145,9 @@ closed_fit c p f k =
         defaults = f.log.defaults;
         calls = filter_fits (IsFitCall p.spec.class p.spec.blocks) _ p.log.pending f.log.calls;
       };
-      told = noted_set_told p.spec.class p.spec.blocks c.op (left_domain c.thread p.domain) p.log.config (p.failures ∷ replicate 59 0)
+      reported = noted_set_reported p.spec.class p.spec.blocks c.op (left_domain c.thread p.domain) p.log.config (p.failures ∷ replicate 59 0)
           k.checked f.log.config
-          (object_stays 0 p.domain.memory (left_domain c.thread p.domain).memory l.objects ∙ f.told);
+          (object_stays 0 p.domain.memory (left_domain c.thread p.domain).memory l.objects ∙ f.reported);
     }
 
 closed_objects : (c : CallEntry) (p : PartState) (object : ℕ) → IsFit p → IsFitCall p.spec.class p.spec.blocks c → 1 ≤ object

@@ -9,30 +9,30 @@ use Rattle.nook_data.specs.declared.steps.Mode.{Mode}
 use Rattle.nook_data.specs.declared.steps.Mode.TheVariants as mode
 use Rattle.nook_data.specs.declared.steps.Stage.{Stage}
 use Rattle.nook_data.specs.declared.steps.Stage.TheVariants as stage
-use Rattle.part_laws.specs.Watch.{sees_crossing, sees_service, sees_reply, wanted, hands_up, handed_one, leaves, owes_found}
+use Rattle.part_laws.specs.Watch.{sees_crossing, sees_service, sees_reply, required, hands_up, handed_one, leaves, owes_found}
 use Rattle.part_defs.specs.Crossing.{next_mode}
 use Rattle.promise_defs.specs.Ideal.{ran}
 use Rattle.promise_defs.proofs.PromiseChanges.{stops_waiting}
 use Rattle.part_laws.specs.Allowed.{allows_option}
 use Rattle.part_defs.specs.Log.{next_replay, replay_after, queue_after}
 use Rattle.part_defs.proofs.PartCases.{config_after, holder_after, replay_stream}
-use Rattle.nook_data.specs.Places.{at_number, change_number}
+use Rattle.nook_data.specs.Numbered.{at_number, change_number}
 use Rattle.part_defs.specs.State.{PartState}
 use Rattle.promise_defs.specs.Trace.{Visible, shown_option, kept_blocks, answer}
 use Rattle.promise_defs.specs.Losses.{handed_result}
 use Rattle.promise_defs.specs.Contract.{is_front, is_replayed}
 use Rattle.nook_data.specs.Frames.{is_empty}
 use Rattle.part_laws.specs.Counts.{Counts, count_option, count_handed}
-use Rattle.part_laws.specs.Balance.{tally, held_at, Balance, Balanced}
+use Rattle.part_laws.specs.Balance.{frame_counts, held_at, Balance, Balanced}
 use Rattle.part_laws.specs.Facts.{At, CallsFacts, DiskFacts, KeyAt, KeyIn, ReplayFits, BootFits, Sub, may_be_inside, is_driving, Facts}
 use Rattle.part_laws.specs.Moves.{hand_call, close_core}
 use Rattle.part_laws.specs.Views.{View, Past, Core, Call, core_of, cores, open_from, stage_of, replay_of, as_watched, as_opened, as_track, watch_of, ideal_of, tracks_of}
 use Rattle.part_laws.proofs.Accepts.{closed_call, Replies, Accepted, core_at, call_facts, checks}
 use Rattle.part_laws.proofs.Balances.{handed_balance, room_balance, answered_balance}
 use Rattle.part_laws.proofs.Closing.{closed_facts, closed_view, answer_shown}
-use Rattle.part_laws.proofs.Places.{split, get_map, get_set_same, map_set, set_get, change_at, change_map, change_unseen, length_map}
+use Rattle.part_laws.proofs.Indices.{split, get_map, get_set_same, map_set, set_get, change_at, change_map, change_unseen, length_map}
 use Rattle.part_laws.proofs.Subs.{sub_mid, prefix_next}
-use Rattle.part_laws.proofs.Watching.{wanted_met}
+use Rattle.part_laws.proofs.Watching.{required_met}
 
 -- The crossing of a burst, as the monitor and the never-failing device see it.
 
@@ -52,8 +52,8 @@ pub fails_cross : (v : View) (b : Past) (n : ℕ) (e : End) (cause : FailCause) 
     → held_at (stage_of v.mode) b.rest ≡ length b.rest
     → CrossOk v b n e None (Some cause) (record v { mode = mode.Recovering stage.Stop; driven = false })
 fails_cross v b n e cause f r held = record {
-  counted = λ m x. subst (λ y. Balance (length v.dev.ring) (length v.queue) (length b.rest) (tally (count_handed y m))) (sym r)
-      (subst (λ y. Balance (length v.dev.ring) (length v.queue) y (tally m)) held x);
+  counted = λ m x. subst (λ y. Balance (length v.dev.ring) (length v.queue) (length b.rest) (frame_counts (count_handed y m))) (sym r)
+      (subst (λ y. Balance (length v.dev.ring) (length v.queue) y (frame_counts m)) held x);
   after = b;
   facts = record {
     linked = f.linked;
@@ -79,7 +79,7 @@ fails_cross v b n e cause f r held = record {
   allowed = refl;
 }
 
--- ---- nothing that is seen
+-- ---- nothing can be seen
 
 pub pause_cross : (v : View) (b : Past) (n : ℕ) → Facts v b → CrossOk v b n ends.Pause None None v
 pause_cross v b n f = record { counted = λ m x. x; after = b; facts = f; seen = refl; tracked = refl; shown = λ more. refl; allowed = refl }
@@ -115,11 +115,11 @@ pub rx_cross : (v : View) (b : Past) (n service first second r : ℕ) (result : 
     → CrossOk v b n (ends.Service service first second result moved) None None (record v { queue = taken_up moved v.queue })
 rx_cross v b n service first second r result moved f ir er held u h = with_rest (prefix_next b.handed b.rest moved met)
   where
-    kept : (wanted (is_front (b.handed ++ moved ∷ []) (b.handed ++ b.rest)) 8 None) ≡ None
+    kept : (required (is_front (b.handed ++ moved ∷ []) (b.handed ++ b.rest)) 8 None) ≡ None
     kept = sym (ap (λ up. (sees_service up n moved (watch_of v b)).clause) u) ∙ h
 
     met : is_front (b.handed ++ moved ∷ []) (b.handed ++ b.rest) ≡ true
-    met = (wanted_met (is_front (b.handed ++ moved ∷ []) (b.handed ++ b.rest)) 8 None kept).0
+    met = (required_met (is_front (b.handed ++ moved ∷ []) (b.handed ++ b.rest)) 8 None kept).0
 
     same : map core_of (change_number hand_call n b.calls) ≡ cores b
     same = change_unseen core_of hand_call (λ c. refl) n b.calls
@@ -137,7 +137,7 @@ rx_cross v b n service first second r result moved f ir er held u h = with_rest 
     with_rest : (more : List (List ℕ)) × (b.rest ≡ moved ∷ more)
         → CrossOk v b n (ends.Service service first second result moved) None None (record v { queue = taken_up moved v.queue })
     with_rest (more, e) = record {
-      counted = λ m x. subst (λ y. Balance (length v.dev.ring) (length (taken_up moved v.queue)) (held_at (stage_of v.mode) more) (tally (count_handed y m))) (sym ir)
+      counted = λ m x. subst (λ y. Balance (length v.dev.ring) (length (taken_up moved v.queue)) (held_at (stage_of v.mode) more) (frame_counts (count_handed y m))) (sym ir)
           (handed_balance (length v.dev.ring) (length v.queue) (length (taken_up moved v.queue)) (held_at (stage_of v.mode) b.rest) (held_at (stage_of v.mode) more) r m
           (held b.rest ∙ ap length e ∙ ap suc (sym (held more))) (room_balance v.queue moved r er).0 (room_balance v.queue moved r er).1 x);
       after = record b { calls = change_number hand_call n b.calls; handed = b.handed ++ moved ∷ []; rest = more };
@@ -161,7 +161,7 @@ rx_cross v b n service first second r result moved f ir er held u h = with_rest 
       };
       seen =
           ap (λ up. sees_service up n moved (watch_of v b)) u
-          ∙ ap (λ cs. record (watch_of v b) { calls = cs; handed = b.handed ++ moved ∷ []; clause = wanted prefix 8 None })
+          ∙ ap (λ cs. record (watch_of v b) { calls = cs; handed = b.handed ++ moved ∷ []; clause = required prefix 8 None })
           (sym (change_map as_watched hand_call handed_one (λ c. refl) n b.calls))
           ∙ ap (λ t. record (watch_of v b) { calls = map as_watched (change_number hand_call n b.calls); handed = b.handed ++ moved ∷ []; clause = t }) kept
           ∙ ap (λ l. record (watch_of v b) { calls = map as_watched (change_number hand_call n b.calls); handed = b.handed ++ moved ∷ []; popped = l })
@@ -176,39 +176,39 @@ rx_cross v b n service first second r result moved f ir er held u h = with_rest 
 
 -- ---- the shadow's own call is accepted
 
--- the replay of the first key that is no default: before it the registers are the record, from it on the defaults
+-- the replay of the first key that is not a default: the registers before it are the record, the others the defaults
 next_keys : (config defaults regs : List ℕ) (holder : Option ℕ) (key more : ℕ) → key + more ≡ 4 → length config ≡ 4 → length defaults ≡ 4
     → ((j : ℕ) → j < key → slice_index regs j ≡ slice_index config j) → ((j : ℕ) → key ≤ j → slice_index regs j ≡ slice_index defaults j)
     → ((j : ℕ) → KeyAt config defaults false (next_replay key more config defaults holder) j (slice_index regs j))
     × ReplayFits config (Some (next_replay key more config defaults holder))
-next_keys config defaults regs holder key zero e lc ld before behind = by_holder holder
+next_keys config defaults regs holder key zero e lc ld before rest_after = by_holder holder
   where
     all : (j : ℕ) → slice_index regs j ≡ slice_index config j
-    all j = by_place (cases_lt j key)
+    all j = by_position (cases_lt j key)
       where
-        by_place : (j < key) ⊎ (key ≤ j) → slice_index regs j ≡ slice_index config j
-        by_place (inl l) = before j l
-        by_place (inr l) = behind j l ∙ get_or_past defaults j 0 (omega (arith, l, e, ld)) ∙ sym (get_or_past config j 0 (omega (arith, l, e, lc)))
+        by_position : (j < key) ⊎ (key ≤ j) → slice_index regs j ≡ slice_index config j
+        by_position (inl l) = before j l
+        by_position (inr l) = rest_after j l ∙ get_or_past defaults j 0 (omega (arith, l, e, ld)) ∙ sym (get_or_past config j 0 (omega (arith, l, e, lc)))
 
     by_holder : (holder : Option ℕ) → ((j : ℕ) → KeyAt config defaults false (replay_stream holder) j (slice_index regs j)) × ReplayFits config (Some (replay_stream holder))
     by_holder None = (all, tt)
     by_holder (Some t) = (all, tt)
-next_keys config defaults regs holder key (suc more) e lc ld before behind = split (eqb (slice_index config key) (slice_index defaults key))
+next_keys config defaults regs holder key (suc more) e lc ld before rest_after = split (eqb (slice_index config key) (slice_index defaults key))
     (λ t. subst Good (sym (cond-true (eqb (slice_index config key) (slice_index defaults key)) (next_replay (key + 1) more config defaults holder) (stage.ReplaySet key (slice_index config key)) t))
     (next_keys config defaults regs holder (key + 1) more (omega (arith, e)) lc ld
-    (λ j l. by_place t j (cases_eq j key) l) (λ j l. behind j (omega (arith, l)))))
+    (λ j l. by_position t j (cases_eq j key) l) (λ j l. rest_after j (omega (arith, l)))))
     (λ t. subst Good (sym (cond-false (eqb (slice_index config key) (slice_index defaults key)) (next_replay (key + 1) more config defaults holder) (stage.ReplaySet key (slice_index config key)) t))
-    ((λ j. ((λ l. before j l), (λ l. behind j (omega (arith, l))), λ s. inl (behind j (omega (arith, s))))), (omega (arith, e), refl)))
+    ((λ j. ((λ l. before j l), (λ l. rest_after j (omega (arith, l))), λ s. inl (rest_after j (omega (arith, s))))), (omega (arith, e), refl)))
   where
     Good : Stage → Type 0
     Good s = ((j : ℕ) → KeyAt config defaults false s j (slice_index regs j)) × ReplayFits config (Some s)
 
-    by_place : eqb (slice_index config key) (slice_index defaults key) ≡ true → (j : ℕ) → (j ≡ key) ⊎ (j ≡ key → ⊥) → j < key + 1
+    by_position : eqb (slice_index config key) (slice_index defaults key) ≡ true → (j : ℕ) → (j ≡ key) ⊎ (j ≡ key → ⊥) → j < key + 1
         → slice_index regs j ≡ slice_index config j
-    by_place t j (inl s) l = behind j (omega (arith, s)) ∙ ap (slice_index defaults) s ∙ sym (eqb-true (slice_index config key) (slice_index defaults key) t) ∙ ap (slice_index config) (sym s)
-    by_place t j (inr n) l = before j (omega (arith, l, n))
+    by_position t j (inl s) l = rest_after j (omega (arith, s)) ∙ ap (slice_index defaults) s ∙ sym (eqb-true (slice_index config key) (slice_index defaults key) t) ∙ ap (slice_index config) (sym s)
+    by_position t j (inr n) l = before j (omega (arith, l, n))
 
--- the facts at the stage behind the shadow's call
+-- the facts at the stage after the shadow's call
 pub record NextOk (cs : List Core) (config defaults regs : List ℕ) (m : Mode) : Type 0 where
   pub registers : (key : ℕ) → KeyIn cs config defaults false m key (slice_index regs key)
   pub replay : ReplayFits config (stage_of m)
@@ -237,12 +237,12 @@ unfolding replay_after
 next_ok p cs regs (mode.Boot stage.Init) lc ld d r b k h = record
     { registers = λ key. k key ∙ ap (λ l. slice_index l key) (sym b); replay = tt; booting = b; still = λ e. absurd cc; held = λ l. refl }
 next_ok p cs regs (mode.Boot (stage.ReplaySet x y)) lc ld d r b k h = record
-    { registers = λ key. by_place key (cases_lt key x) (cases_lt x key); replay = tt; booting = b; still = λ e. absurd cc; held = λ l. refl }
+    { registers = λ key. by_position key (cases_lt key x) (cases_lt x key); replay = tt; booting = b; still = λ e. absurd cc; held = λ l. refl }
   where
-    by_place : (key : ℕ) → (key < x) ⊎ (x ≤ key) → (x < key) ⊎ (key ≤ x) → slice_index regs key ≡ slice_index p.log.config key
-    by_place key (inl l) u = (k key).0 l
-    by_place key (inr l) (inl u) = (k key).1 u ∙ ap (λ l. slice_index l key) (sym b)
-    by_place key (inr l) (inr u) = ap (slice_index regs) same ∙ eqb-true (slice_index regs x) y h ∙ sym r.1 ∙ ap (slice_index p.log.config) (sym same)
+    by_position : (key : ℕ) → (key < x) ⊎ (x ≤ key) → (x < key) ⊎ (key ≤ x) → slice_index regs key ≡ slice_index p.log.config key
+    by_position key (inl l) u = (k key).0 l
+    by_position key (inr l) (inl u) = (k key).1 u ∙ ap (λ l. slice_index l key) (sym b)
+    by_position key (inr l) (inr u) = ap (slice_index regs) same ∙ eqb-true (slice_index regs x) y h ∙ sym r.1 ∙ ap (slice_index p.log.config) (sym same)
       where
         same : key ≡ x
         same = omega (arith, l, u)
@@ -254,11 +254,11 @@ next_ok p cs regs (mode.Recovering stage.Init) lc ld d r b k h = replayed cs p.l
 next_ok p cs regs (mode.Recovering (stage.ReplaySet x y)) lc ld d r b k h = replayed cs p.log.config p.log.defaults regs
     (next_replay (x + 1) (3 - x) p.log.config p.log.defaults p.log.holder) (next_held p.log.config p.log.defaults p.log.holder (x + 1) (3 - x))
     (next_keys p.log.config p.log.defaults regs p.log.holder (x + 1) (3 - x) (omega (arith, r.0)) lc ld
-    (λ j l. by_place j (cases_eq j x) l) (λ j l. (k j).1 (omega (arith, l))))
+    (λ j l. by_position j (cases_eq j x) l) (λ j l. (k j).1 (omega (arith, l))))
   where
-    by_place : (j : ℕ) → (j ≡ x) ⊎ (j ≡ x → ⊥) → j < x + 1 → slice_index regs j ≡ slice_index p.log.config j
-    by_place j (inl s) l = ap (slice_index regs) s ∙ eqb-true (slice_index regs x) y h ∙ sym r.1 ∙ ap (slice_index p.log.config) (sym s)
-    by_place j (inr n) l = (k j).0 (omega (arith, l, n))
+    by_position : (j : ℕ) → (j ≡ x) ⊎ (j ≡ x → ⊥) → j < x + 1 → slice_index regs j ≡ slice_index p.log.config j
+    by_position j (inl s) l = ap (slice_index regs) s ∙ eqb-true (slice_index regs x) y h ∙ sym r.1 ∙ ap (slice_index p.log.config) (sym s)
+    by_position j (inr n) l = (k j).0 (omega (arith, l, n))
 next_ok p cs regs (mode.Recovering stage.ReplayOpen) lc ld d r b k h = record
     { registers = λ key. k key; replay = tt; booting = tt; still = λ e. absurd cc; held = λ l. refl }
 next_ok p cs regs mode.Running lc ld d r b k h = absurd cc
@@ -274,7 +274,7 @@ next_ok p cs regs (mode.Recovering stage.Reset) lc ld d r b k h = absurd cc
 next_ok p cs regs (mode.Recovering stage.Load) lc ld d r b k h = absurd cc
 next_ok p cs regs (mode.Recovering stage.Resume) lc ld d r b k h = absurd cc
 
--- nobody is Inside while the shadow drives
+-- no call is Inside while the shadow drives
 driven_alone : (m : Mode) → is_driving (stage_of m) ≡ true → may_be_inside m ≡ true → ⊥
 driven_alone (mode.Boot s) d i = absurd cc
 driven_alone mode.Running d i = absurd cc
@@ -293,7 +293,7 @@ pub shadow_cross : (v : View) (b : Past) (n status : ℕ) (m : Mode) → Facts v
     → (sees_reply n None (watch_of v b)).clause ≡ None → NextOk (cores b) v.config v.defaults v.dev.registers m
     → CrossOk v b n (ends.Reply status) None None (record v { mode = m; driven = false })
 shadow_cross v b n status m f d held h g = record {
-  counted = λ t x. subst (λ y. Balance (length v.dev.ring) (length v.queue) y (tally t)) (held ∙ sym (g.held b.rest)) x;
+  counted = λ t x. subst (λ y. Balance (length v.dev.ring) (length v.queue) y (frame_counts t)) (held ∙ sym (g.held b.rest)) x;
   after = b;
   facts = record {
     linked = f.linked;

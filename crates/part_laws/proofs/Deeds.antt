@@ -1,4 +1,4 @@
--- What a burst's deeds leave and break is what a monitor that goes over its acts and its crossing finds.
+-- What a burst's deeds leave and break agrees with what a monitor finds in its acts and its crossing.
 use Rattle.std.proofs.Common.{◌≡◌, ◌⊎◌, inl, inr, ℕ, zero, suc, ◌+◌, ◌<◌, ◌||◌, ◌&&◌, not, Bool, true, false, cond, Option, Some, None, List, [], ◌∷◌, ◌++◌, map, length, filter, find, sym, refl, ap, ap₂, ◌∙◌, subst, arith, option_map, nat_lt, is_some}
 use Rattle.std.specs.Prelude.{◌==◌, if◌then◌else◌, bytes_eq, slice_index, fold}
 use Rattle.std.specs.List.{list_any}
@@ -14,12 +14,12 @@ use Rattle.nook_data.specs.declared.calls.Op.{Op}
 use Rattle.nook_data.specs.declared.calls.Op.TheVariants as op
 use Rattle.promise_defs.specs.Blocks.{has_block, holds_from, words_for}
 use Rattle.nook_data.specs.Classes.{covers, is_write, sends as sends_own, is_play, sends}
-use Rattle.part_laws.specs.Watch.{Watch, Watched, failed_at as failed_one, handed_one, hands_up as is_handed, is_agreed, is_covered, is_first_frame, is_own_frame, is_playing as plays, is_next_of as is_next_in, is_setting as are_setting, leaves, may_register, owes, owes_found, played_one, sees_act, sees_acts, sees_crossing, sees_reply, sees_service, sent_once, stores_at, wanted}
+use Rattle.part_laws.specs.Watch.{Watch, Watched, failed_at as failed_one, handed_one, hands_up as is_handed, is_agreed, is_covered, is_first_frame, is_own_frame, is_playing as plays, is_next_of as is_next_in, is_setting as are_setting, leaves, may_register, owes, owes_found, played_one, sees_act, sees_acts, sees_crossing, sees_reply, sees_service, sent_once, stores_at, required}
 use Rattle.promise_defs.specs.Contract.{is_front as is_prefix, is_replayed as was_replayed}
 use Rattle.promise_defs.specs.Contract.{is_replay_of as is_replaying, sets as sets_own}
 use Rattle.nook_data.specs.Frames.{is_empty, is_empty as was_empty}
-use Rattle.nook_data.specs.Places.{at_number, change_number, number_where}
-use Rattle.part_laws.proofs.Places.{split}
+use Rattle.nook_data.specs.Numbered.{at_number, change_number, number_where}
+use Rattle.part_laws.proofs.Indices.{split}
 use Rattle.nook_data.specs.declared.clause.Clause.{Clause}
 use Rattle.promise_defs.specs.Contract.{Deed, Known, OpenCall, acts, after_deed, after_failure, breaks, call_of}
 use Rattle.promise_defs.specs.Contract.{change_call, change_first, crossing_deeds, deeds_of, hands_up, is_broken_by}
@@ -183,29 +183,29 @@ act_shut flags call (act.Register key value) w s = s
 -- what an act breaks
 store_breaks : (k : Known) (o : Option OpenCall) (block : ℕ) (words : List ℕ) (x : Option ℕ)
     → smallest_or all_clauses (λ clause. breaks clause k o (acts (act.Store block words))) x
-    ≡ wanted (not (not (list_any (may_store block) k.calls))) 1 (wanted (not (list_any (stores_other block words) k.calls)) 2 x)
+    ≡ required (not (not (list_any (may_store block) k.calls))) 1 (required (not (list_any (stores_other block words) k.calls)) 2 x)
 store_breaks k None block words x = refl
 store_breaks k (Some c) block words x = refl
 
 sent_breaks : (flags : List Bool) (w : Watch) (n : ℕ) (o : Option Watched) (frame : List ℕ)
     → smallest_or all_clauses (λ clause. breaks clause (known_of flags w) (option_map (opened_call n) o) (acts (act.Sent frame))) w.clause
-    ≡ wanted (is_own_frame frame o) 5 (wanted (is_first_frame o) 6 w.clause)
+    ≡ required (is_own_frame frame o) 5 (required (is_first_frame o) 6 w.clause)
 sent_breaks flags w n None frame = refl
 sent_breaks flags w n (Some c) frame =
-    ap₂ (λ a b. wanted a 5 (wanted b 6 w.clause)) (not_twice (sends frame c.op) ∙ same_sends frame c.op) (sent_none c.sent)
+    ap₂ (λ a b. required a 5 (required b 6 w.clause)) (not_twice (sends frame c.op) ∙ same_sends frame c.op) (sent_none c.sent)
   where
     sent_none : (n : ℕ) → not (nat_lt 0 n) ≡ (n == 0)
     sent_none n = grind (arith, nat_tests)
 
 played_breaks : (k : Known) (o : Option OpenCall) (word rate volume : ℕ) (x : Option ℕ)
     → smallest_or all_clauses (λ clause. breaks clause k o (acts (act.Played word rate volume))) x
-    ≡ wanted (not (not (is_next_of word (play_inside k.calls)))) 10 x
+    ≡ required (not (not (is_next_of word (play_inside k.calls)))) 10 x
 played_breaks k None word rate volume x = refl
 played_breaks k (Some c) word rate volume x = refl
 
 register_breaks : (k : Known) (o : Option OpenCall) (key value : ℕ) (x : Option ℕ)
     → smallest_or all_clauses (λ clause. breaks clause k o (acts (act.Register key value))) x
-    ≡ wanted (not (not (slice_index k.registers key == value) && not (list_any (is_setting key value) k.calls || is_replay_of key value k.replay))) 12 x
+    ≡ required (not (not (slice_index k.registers key == value) && not (list_any (is_setting key value) k.calls || is_replay_of key value k.replay))) 12 x
 register_breaks k None key value x = refl
 register_breaks k (Some c) key value x = refl
 
@@ -241,7 +241,7 @@ act_broken flags call (act.Failed block store) w i s =
     no_breaks (known_of flags w) (call_of call (picked 1 flags w.calls)) (act.Failed block store) w.clause refl
 act_broken flags call (act.Store block words) w i s =
     store_breaks (known_of flags w) (call_of call (picked 1 flags w.calls)) block words w.clause
-    ∙ ap₂ (λ a b. wanted a 1 (wanted b 2 w.clause))
+    ∙ ap₂ (λ a b. required a 1 (required b 2 w.clause))
     (not_twice (list_any (may_store block) (picked 1 flags w.calls)) ∙ is_stored flags block w.calls s)
     (is_agreed_on flags block words w.calls s)
 act_broken flags call (act.Sent frame) w i s =
@@ -251,11 +251,11 @@ act_broken flags call (act.Popped frame) w i s =
     no_breaks (known_of flags w) (call_of call (picked 1 flags w.calls)) (act.Popped frame) w.clause refl
 act_broken flags call (act.Played word rate volume) w i s =
     played_breaks (known_of flags w) (call_of call (picked 1 flags w.calls)) word rate volume w.clause
-    ∙ ap (λ b. wanted b 10 w.clause)
+    ∙ ap (λ b. required b 10 w.clause)
     (not_twice (is_next_of word (play_inside (picked 1 flags w.calls))) ∙ is_next_one flags word w.calls s)
 act_broken flags call (act.Register key value) w i s =
     register_breaks (known_of flags w) (call_of call (picked 1 flags w.calls)) key value w.clause
-    ∙ ap (λ b. wanted b 12 w.clause)
+    ∙ ap (λ b. required b 12 w.clause)
     (one_of (slice_index w.registers key == value) (list_any (is_setting key value) (picked 1 flags w.calls)) (is_replay_of key value w.replay)
     ∙ ap₂ (λ a b. (slice_index w.registers key == value) || a || b) (is_set flags key value w.calls s) (same_replay key value w.replay))
 
@@ -289,12 +289,12 @@ one_deed flags call w d =
     smallest_join all_clauses (λ clause. breaks clause (known_of flags w) (call_of call (picked 1 flags w.calls)) d) (λ clause. false) w.clause
 
 up_breaks : (k : Known) (o : Option OpenCall) (frame : List ℕ) (x : Option ℕ)
-    → smallest_or all_clauses (λ clause. breaks clause k o (hands_up frame)) x ≡ wanted (not (not (is_front (k.handed ++ frame ∷ []) k.popped))) 8 x
+    → smallest_or all_clauses (λ clause. breaks clause k o (hands_up frame)) x ≡ required (not (not (is_front (k.handed ++ frame ∷ []) k.popped))) 8 x
 up_breaks k None frame x = refl
 up_breaks k (Some c) frame x = refl
 
 replay_breaks : (k : Known) (o : Option OpenCall) (x : Option ℕ)
-    → smallest_or all_clauses (λ clause. breaks clause k o replays) x ≡ wanted (not (not (is_replayed k.replay k.registers))) 13 x
+    → smallest_or all_clauses (λ clause. breaks clause k o replays) x ≡ required (not (not (is_replayed k.replay k.registers))) 13 x
 replay_breaks k None x = refl
 replay_breaks k (Some c) x = refl
 
@@ -316,7 +316,7 @@ crossing_broken flags call (end.Service number first second None moved) None (So
 crossing_broken flags call (end.Service number first second result moved) None None w i h = split (number == 6 && is_some result)
     (λ e. rw e (one_deed flags call w (hands_up moved)
     ∙ up_breaks (known_of flags w) (call_of call (picked 1 flags w.calls)) moved w.clause
-    ∙ ap (λ b. wanted b 8 w.clause) (not_twice (is_front (w.handed ++ moved ∷ []) w.popped) ∙ same_front (w.handed ++ moved ∷ []) w.popped)))
+    ∙ ap (λ b. required b 8 w.clause) (not_twice (is_front (w.handed ++ moved ∷ []) w.popped) ∙ same_front (w.handed ++ moved ∷ []) w.popped)))
     (λ e. rw e refl)
 crossing_broken flags call (end.Reply status) (Some a) (Some cause) w i h = absurd h
 crossing_broken flags call (end.Reply status) None (Some cause) w i h = refl
@@ -327,7 +327,7 @@ crossing_broken flags call (end.Reply status) (Some a) None w i h =
 crossing_broken flags call (end.Reply status) None None w i h =
     one_deed flags call w replays
     ∙ replay_breaks (known_of flags w) (call_of call (picked 1 flags w.calls)) w.clause
-    ∙ ap (λ b. wanted b 13 w.clause) (not_twice (is_replayed w.replay w.registers) ∙ same_replayed w.replay w.registers)
+    ∙ ap (λ b. required b 13 w.clause) (not_twice (is_replayed w.replay w.registers) ∙ same_replayed w.replay w.registers)
 crossing_broken flags call end.Pause (Some a) failure w i h = absurd h
 crossing_broken flags call end.Pause None (Some cause) w i h = refl
 crossing_broken flags call end.Pause None None w i h = refl

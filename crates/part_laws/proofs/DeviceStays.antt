@@ -1,4 +1,4 @@
--- The device of a part is of its spec's class, at every step and after every run; the spec never changes.
+-- The device of a part has its spec's class at every step and after every run, and the spec never changes.
 use Rattle.std.proofs.Common.{◌≡◌, ℕ, ◌+◌, ◌==◌, Option, Some, None, Result, Ok, Err, List, [], ◌∷◌, length, refl, sym, ap, ◌∙◌}
 use Rattle.nook_data.specs.declared.classes.Accept.{Accept}
 use Rattle.nook_data.specs.declared.classes.Accept.TheVariants as accepts
@@ -77,13 +77,13 @@ opening_kind_class class.Block blocks bad = refl
 opening_kind_class class.Net blocks bad = refl
 opening_kind_class class.Sound blocks bad = refl
 
--- an opening device is of the class that it is made for
+-- a new device has the class that it is made for
 pub opening_device_class : (c : Class) (blocks : ℕ) (bad : List BadBlock) (defaults : List ℕ)
     → class_of (opening_device c blocks bad defaults) ≡ c
 unfolding opening_device
 opening_device_class c blocks bad defaults = opening_kind_class c blocks bad
 
--- a crossing leaves the device alone
+-- a crossing does not change the device
 
 abbrev Untouched : PartState → PartState → Type 0
 Untouched p q = q.domain.device ≡ p.domain.device
@@ -124,7 +124,7 @@ shadow_reply_untouched status p = split (is_accepted status p)
     (λ e. rw e (next_stage_untouched p))
     (λ e. rw e (fails_untouched p))
 
--- what a crossing asks leaves the device alone
+-- what a crossing requests does not change the device
 pub crossing_untouched : (context : ℕ) (e : BurstEnd) (p : PartState) → (after_crossing context e p).state.domain.device ≡ p.domain.device
 unfolding after_crossing
 crossing_untouched context (ends.Trap cause) p = fails_untouched p
@@ -152,7 +152,7 @@ admitted_stays : (p : PartState) (c : CallEntry) (a : Admit) → Stays p (after_
 unfolding entered_domain
 admitted_stays p c (admits.Reply a) = refl
 admitted_stays p c admits.TakeFrame = refl
-admitted_stays p c (admits.Enter place) = refl
+admitted_stays p c (admits.Enter index) = refl
 
 enter_stays : (p : PartState) (thread : ℕ) (o : Option CallEntry) → Stays p (entered_by p thread o)
 enter_stays p thread None = refl
@@ -190,7 +190,7 @@ stage_by_stays : (p : PartState) (o : Option Stage) → Stays p (stage_by p o)
 stage_by_stays p None = refl
 stage_by_stays p (Some s) = stage_stays p s
 
--- a step leaves the device of its class
+-- a step keeps the device in its class
 pub class_after : (p : PartState) (s : Step) → class_of (stepped p s).state.domain.device ≡ class_of p.domain.device
 unfolding stepped after_invoke after_enter burst_stepped stage_stepped after_arrival
 class_after p (step.Invoke thread o) = invoke_stays p thread o (static_check p.spec.class p.spec.blocks o)
@@ -201,30 +201,30 @@ class_after p (step.Burst context) =
 class_after p step.Stage = stage_by_stays p (stage_due p.mode)
 class_after p (step.Arrive frame) = arrival_keeps_class frame p.domain.device
 
--- a step leaves the spec alone
+-- a step does not change the spec
 pub spec_after : (p : PartState) (s : Step) → (stepped p s).state.spec ≡ p.spec
 spec_after p s = (step_counted p s).spec
 
--- a device of the spec's class stays so
+-- a device of the spec's class remains so
 pub device_after : (p : PartState) (s : Step) → class_of p.domain.device ≡ p.spec.class
     → class_of (stepped p s).state.domain.device ≡ (stepped p s).state.spec.class
 device_after p s h = class_after p s ∙ h ∙ ap (λ (spec : PartSpec). spec.class) (sym (spec_after p s))
 
 -- runs
 
--- the steps of a list of events leave the device of its class
+-- the steps of a list of events keep the device in its class
 pub class_from : (p : PartState) (events : List Event) → class_of (state_from p events).domain.device ≡ class_of p.domain.device
 unfolding state_from
 class_from p [] = refl
 class_from p (e ∷ events) = class_from (state_after p (step_of e)) events ∙ class_after p (step_of e)
 
--- they leave the spec alone
+-- they do not change the spec
 pub spec_from : (p : PartState) (events : List Event) → (state_from p events).spec ≡ p.spec
 unfolding state_from
 spec_from p [] = refl
 spec_from p (e ∷ events) = spec_from (state_after p (step_of e)) events ∙ spec_after p (step_of e)
 
--- a part at first has its spec and a device of its class
+-- an opening part has its spec and a device of its class
 pub opening_class : (spec : PartSpec) → class_of (opening spec).domain.device ≡ spec.class
 unfolding opening opening_domain
 opening_class spec = opening_device_class spec.class spec.blocks spec.bad _
@@ -233,7 +233,7 @@ pub opening_spec : (spec : PartSpec) → (opening spec).spec ≡ spec
 unfolding opening
 opening_spec spec = refl
 
--- after every run the device is of the spec's class
+-- after every run the device has the spec's class
 pub run_device : (spec : PartSpec) (journal : List Event) → IsRun spec journal → class_of (state_of spec journal).domain.device ≡ spec.class
 run_device spec journal run = class_from (opening spec) journal ∙ opening_class spec
 

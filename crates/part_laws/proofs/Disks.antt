@@ -11,10 +11,10 @@ use Rattle.part_laws.specs.Facts.{At, CallsFacts, IsStored, DiskFacts}
 use Rattle.part_laws.specs.Views.{Core}
 use Rattle.part_laws.proofs.Acting.{write_alone}
 use Rattle.part_laws.proofs.Keeping.{disk_same, writes_set}
-use Rattle.part_laws.proofs.Places.{split, same_at, get_set, get_set_other}
+use Rattle.part_laws.proofs.Indices.{split, same_at, get_set, get_set_other}
 use Rattle.part_laws.proofs.Subs.{same_bytes}
 
--- The medium and the plain disk where a call is answered.
+-- The medium and the plain disk when a call is answered.
 
 -- ---- blocks put
 
@@ -56,14 +56,14 @@ same_blocks xs ys (suc count) first h =
     (unwrap_or-slice_get xs first [] ∙ h first (omega arith) (omega arith) ∙ sym (unwrap_or-slice_get ys first []))
     (same_blocks xs ys count (suc first) (λ n l u. h n (omega (arith, l)) (omega (arith, u))))
 
--- ---- a call that is no Write is closed
+-- ---- a call other than a Write is closed
 
 pub disk_plain : (cs : List Core) (plain medium : List (List ℕ)) (k : ℕ) (c d : Core) → At cs k c → is_write c.op ≡ false → d.waits ≡ false
     → DiskFacts cs plain medium → DiskFacts (set cs k d) plain medium
 disk_plain cs plain medium k c d h n w f = disk_same cs (set cs k d) plain medium (writes_set cs k c d h
     (λ a o. absurd cc (n, o)) (λ a o. absurd cc (w, a))) f
 
--- ---- a Write is closed, its chosen blocks put
+-- ---- a Write is closed, and its chosen blocks are put
 
 pub disk_put : (cs : List Core) (plain medium : List (List ℕ)) (k : ℕ) (c d : Core) (chosen : ℕ → Bool) → At cs k c → d.waits ≡ false
     → DiskFacts cs plain medium
@@ -91,18 +91,18 @@ disk_put cs plain medium k c d chosen h w f held all = record {
         by_block : chosen n ≡ false → (slice_index_or medium n [] ≡ slice_index_or plain n []) ⊎ IsStored cs n (slice_index_or medium n [])
             → (slice_index_or medium n [] ≡ slice_index_or (put_from chosen c.op 0 plain) n []) ⊎ IsStored (set cs k d) n (slice_index_or medium n [])
         by_block t (inl e) = inl (e ∙ sym (put_at n l ∙ ap (λ b. put_block b c.op n (slice_index_or plain n [])) t))
-        by_block t (inr s) = by_place (cases_eq s.place k)
+        by_block t (inr s) = by_position (cases_eq s.index k)
           where
-            by_place : (s.place ≡ k) ⊎ (s.place ≡ k → ⊥)
+            by_position : (s.index ≡ k) ⊎ (s.index ≡ k → ⊥)
                 → (slice_index_or medium n [] ≡ slice_index_or (put_from chosen c.op 0 plain) n []) ⊎ IsStored (set cs k d) n (slice_index_or medium n [])
-            by_place (inl e) = absurd cc (t, all n (ap (λ x. covers x.op n) (sym same) ∙ s.covered) (ap (λ x. has_block n x.stored) (sym same) ∙ s.named))
+            by_position (inl e) = absurd cc (t, all n (ap (λ x. covers x.op n) (sym same) ∙ s.covered) (ap (λ x. has_block n x.stored) (sym same) ∙ s.named))
               where
                 same : s.call ≡ c
                 same = same_at cs k s.call c (subst (λ p. At cs p s.call) e s.at) h
-            by_place (inr e) = inr (record {
-              place = s.place;
+            by_position (inr e) = inr (record {
+              index = s.index;
               call = s.call;
-              at = get_set_other cs s.place k d e ∙ s.at;
+              at = get_set_other cs s.index k d e ∙ s.at;
               waits = s.waits;
               entered = s.entered;
               writes = s.writes;
@@ -121,7 +121,7 @@ disk_put cs plain medium k c d chosen h w f held all = record {
     covered j e n we u b (inl s) = absurd cc (w, sym (ap (λ x. x.waits) s.1) ∙ we)
     covered j e n we u b (inr s) = f.covered j e n s.1 we u b
 
--- ---- what an operation that is Inside covers is as the plain disk has it, or its own
+-- ---- what an operation that is Inside covers is as on the plain disk, or its own
 
 pub read_same : (class : Class) (size : ℕ) (cs : List Core) (plain medium : List (List ℕ)) → CallsFacts class size cs → DiskFacts cs plain medium
     → (k : ℕ) (c : Core) → At cs k c → c.inside ≡ true → is_write c.op ≡ false → (n : ℕ) → covers c.op n ≡ true
@@ -131,6 +131,6 @@ read_same class size cs plain medium calls f k c h i w n o = by_block (f.blocks 
     by_block : (slice_index_or medium n [] ≡ slice_index_or plain n []) ⊎ IsStored cs n (slice_index_or medium n [])
         → slice_index_or medium n [] ≡ slice_index_or plain n []
     by_block (inl e) = e
-    by_block (inr s) = absurd (write_alone class size cs calls s.place k s.call c s.at h s.waits ((calls.each k c h).opened i)
+    by_block (inr s) = absurd (write_alone class size cs calls s.index k s.call c s.at h s.waits ((calls.each k c h).opened i)
         s.entered ((calls.each k c h).entered i) s.writes n s.covered o
         (λ e. absurd cc (w, ap (λ x. is_write x.op) (sym (same_at cs k s.call c (subst (λ p. At cs p s.call) e s.at) h)) ∙ s.writes)))

@@ -21,12 +21,12 @@ use Rattle.machine_defs.specs.Pages.{object_words, opening_memory}
 use Rattle.nook_data.specs.Layout.{object_start}
 use Rattle.part_defs.specs.State.{DomainState}
 use Rattle.part_laws.proofs.EntriesFit.{with_entry_fits, filter_fits, registered_fits, with_entry_ordered, registered_ordered, without_buffer_ordered, collected_ordered}
-use Rattle.part_laws.proofs.Objects.{SameObjects, nothing_changed, FitsBuffer, lent_keeps, set_key, load_keeps, burst_keeps_objects, kernel_word, kernel_word_elsewhere, set_told}
+use Rattle.part_laws.proofs.Objects.{SameObjects, nothing_changed, FitsBuffer, lent_keeps, set_key, load_keeps, burst_keeps_objects, kernel_word, kernel_word_elsewhere, set_reported}
 use Rattle.part_laws.specs.Fit.{IsFitSpec, IsFitEntry, IsOrdered, IsFitDomain}
 
 -- What each change of a domain keeps.
 
--- the domain fits, and the kernel's objects stay
+-- the domain fits, and the kernel's objects do not change
 pub record DomainKept (heap : ℕ) (d e : DomainState) : Type 0 where
   pub fit : IsFitDomain heap e
   pub objects : SameObjects d.memory e.memory
@@ -40,10 +40,10 @@ lent_entries_ordered : (context : ℕ) (o : Option Lent) (entries : List Entry) 
 lent_entries_ordered context None entries ordered = ordered
 lent_entries_ordered context (Some l) entries ordered = with_entry_ordered (entry.Buffer context l.writable) entries refl ordered
 
-pub entered_kept : (heap context place : ℕ) (o : Op) (d : DomainState) → IsFitDomain heap d → context ≤ 16 → FitsBuffer (buffer_of o)
-    → DomainKept heap d (entered_domain context place o d)
+pub entered_kept : (heap context index : ℕ) (o : Op) (d : DomainState) → IsFitDomain heap d → context ≤ 16 → FitsBuffer (buffer_of o)
+    → DomainKept heap d (entered_domain context index o d)
 unfolding entered_domain
-entered_kept heap context place o d f c b =
+entered_kept heap context index o d f c b =
     let s : SameObjects d.memory (lent_memory context (buffer_of o) d.memory) = lent_keeps context (buffer_of o) d.memory f.memory c b in
     record {
       fit = record {
@@ -55,9 +55,9 @@ entered_kept heap context place o d f c b =
       objects = s;
     }
 
-pub plainly_kept : (heap context place : ℕ) (d : DomainState) → IsFitDomain heap d → DomainKept heap d (plainly_entered context place d)
+pub plainly_kept : (heap context index : ℕ) (d : DomainState) → IsFitDomain heap d → DomainKept heap d (plainly_entered context index d)
 unfolding plainly_entered
-plainly_kept heap context place d f = record {
+plainly_kept heap context index d f = record {
   fit = record { memory = f.memory; contexts = length-set d.contexts context _ ∙ f.contexts; entries = f.entries; ordered = f.ordered };
   objects = nothing_changed d.memory;
 }
@@ -174,12 +174,12 @@ noted_set_elsewhere c blocks object (op.Set key value) d h one =
     noted_elsewhere object key value d one (omega arith)
 noted_set_elsewhere c blocks object _ d h one = refl
 
-pub noted_set_told : (c : Class) (blocks : ℕ) (o : Op) (d : DomainState) (config rest : List ℕ) → static_check c blocks o ≡ None
+pub noted_set_reported : (c : Class) (blocks : ℕ) (o : Op) (d : DomainState) (config rest : List ℕ) → static_check c blocks o ≡ None
     → length config ≡ 4 → object_words 0 d.memory ≡ config ++ rest
     → object_words 0 (noted_set o d).memory ≡ config_after o config ++ rest
-noted_set_told c blocks (op.Set key value) d config rest h n told =
-    noted_there key value d ∙ ap (λ (xs : List ℕ). slice_set xs key value) told ∙ set_told config key value rest n (set_key c blocks key value h)
-noted_set_told c blocks _ d config rest h n told = told
+noted_set_reported c blocks (op.Set key value) d config rest h n reported =
+    noted_there key value d ∙ ap (λ (xs : List ℕ). slice_set xs key value) reported ∙ set_reported config key value rest n (set_key c blocks key value h)
+noted_set_reported c blocks _ d config rest h n reported = reported
 
 pub noted_set_kernel : (o : Op) (d : DomainState) → is_set o ≡ false → object_words 0 (noted_set o d).memory ≡ object_words 0 d.memory
 noted_set_kernel (op.Set key value) d h = cc
@@ -197,11 +197,11 @@ opening_length class.Block = refl
 opening_length class.Net = refl
 opening_length class.Sound = refl
 
-pub opening_told : (c : Class) → object_words 0 (opening_memory (defaults_of c)) ≡ defaults_of c ++ (0 ∷ replicate 59 0)
+pub opening_reported : (c : Class) → object_words 0 (opening_memory (defaults_of c)) ≡ defaults_of c ++ (0 ∷ replicate 59 0)
 unfolding opening_memory
-opening_told class.Block = refl
-opening_told class.Net = refl
-opening_told class.Sound = refl
+opening_reported class.Block = refl
+opening_reported class.Net = refl
+opening_reported class.Sound = refl
 
 pub opening_domain_fit : (heap : ℕ) (spec : PartSpec) → IsFitDomain heap (opening_domain spec)
 unfolding opening_domain

@@ -11,7 +11,7 @@ use Rattle.nook_data.specs.declared.steps.Mode.TheVariants as mode
 use Rattle.nook_data.specs.declared.calls.Op.{Op}
 use Rattle.nook_data.specs.declared.calls.Op.TheVariants.{Read, Write, Send, Recv, Open, Play, Close, Get, Set}
 use Rattle.part_defs.specs.Calls.{after_admit, after_enter}
-use Rattle.nook_data.specs.Classes.{conflicts, is_holder, is_recv, is_write, admit, admit_holder, entry_place}
+use Rattle.nook_data.specs.Classes.{conflicts, is_holder, is_recv, is_write, admit, admit_holder, entry_address}
 use Rattle.part_laws.specs.Watch.{Watch, enters}
 use Rattle.nook_data.specs.Frames.{head_of, is_empty, tail_of}
 use Rattle.part_defs.specs.Domain.{entered_domain, entry_context, arguments_of}
@@ -22,7 +22,7 @@ use Rattle.part_defs.specs.Log.{call_of_thread, after_entering, after_answering 
 use Rattle.part_defs.specs.Log.{blocks_call}
 use Rattle.part_defs.proofs.PartCases.{admit_open, change_entry, entered_by, entered_call, is_of_thread}
 use Rattle.promise_defs.proofs.PromiseCases.{closes}
-use Rattle.nook_data.specs.Places.{at_number, change_number}
+use Rattle.nook_data.specs.Numbered.{at_number, change_number}
 use Rattle.part_defs.specs.State.{PartState}
 use Rattle.part_defs.specs.Steps.{can_enter, is_ready, is_running}
 use Rattle.promise_defs.specs.Trace.{Visible, answer, kept_blocks}
@@ -39,11 +39,11 @@ use Rattle.part_laws.proofs.Disks.{disk_plain}
 use Rattle.part_laws.proofs.Keeping.{calls_enter, disk_same, writes_set}
 use Rattle.part_laws.proofs.OfClass.{recv_class}
 use Rattle.part_laws.proofs.OpenCalls.{Found, open_find, open_change, open_apart}
-use Rattle.part_laws.proofs.Places.{split, same_at, get_map, from_map, get_set, get_set_other, map_set, set_get, change_at}
+use Rattle.part_laws.proofs.Indices.{split, same_at, get_map, from_map, get_set, get_set_other, map_set, set_get, change_at}
 use Rattle.part_laws.specs.Recovery.{StepKeeps}
 use Rattle.part_laws.proofs.Subs.{Taken, sub_front}
 
--- A held call is entered: it goes Inside, or the class answers it.
+-- A held call is entered: it goes Inside, or its class answers it.
 
 -- a call that may be entered
 pub record MayEnter (v : View) (b : Past) (k : ℕ) (c : Call) : Type 0 where
@@ -57,13 +57,13 @@ pub record MayEnter (v : View) (b : Past) (k : ℕ) (c : Call) : Type 0 where
 enter_at : (v : View) (b : Past) (k : ℕ) (c : Call) → MayEnter v b k c → At (cores b) k c.core
 enter_at v b k c u = get_map core_of b.calls k c u.at
 
--- a Set that is Inside stands at another place
+-- a Set that is Inside has another index
 setting_stays : (v : View) (b : Past) (k : ℕ) (c : Call) (d : Core) → MayEnter v b k c → (key value : ℕ)
     → IsSetting (cores b) key value → IsSetting (set (cores b) k d) key value
 setting_stays v b k c d u key value s = record {
-  place = s.place;
+  index = s.index;
   call = s.call;
-  at = get_set_other (cores b) s.place k d (λ e. absurd cc (
+  at = get_set_other (cores b) s.index k d (λ e. absurd cc (
     u.held,
     ap (λ x. x.inside)
         (same_at (cores b) k c.core s.call (enter_at v b k c u) (subst (λ p. At (cores b) p s.call) e s.at)) ∙ s.inside,
@@ -136,10 +136,10 @@ tracked_entered b k c d h e =
     ∙ ap (set (tracks_of b) k) (sym e)
     ∙ sym (ap (map as_track) (map_set core_of b.calls k d) ∙ map_set as_track (cores b) k d.core)
 
-enters_ok : (p : PartState) (b : Past) (k place : ℕ) (c : Call) → MayEnter (view_of p) b k c → length p.domain.contexts ≡ 17
-    → HolderFits p.log.holder c.core.thread c.core.op → StepKeeps p b (after_admit p (entry_of (suc k) c.core) (admits.Enter place))
+enters_ok : (p : PartState) (b : Past) (k index : ℕ) (c : Call) → MayEnter (view_of p) b k c → length p.domain.contexts ≡ 17
+    → HolderFits p.log.holder c.core.thread c.core.op → StepKeeps p b (after_admit p (entry_of (suc k) c.core) (admits.Enter index))
 unfolding after_entering entered_domain
-enters_ok p b k place c u l holder = record {
+enters_ok p b k index c u l holder = record {
   counted = λ n x. subst (λ v. Balanced v (record b { calls = set b.calls k (enter_call true c) }) n) seen x;
   after = past;
   facts = subst (λ v. Facts v (record b { calls = set b.calls k (enter_call true c) })) seen (enter_facts (view_of p) b k c u holder);
@@ -159,14 +159,14 @@ enters_ok p b k place c u l holder = record {
     past : Past
     past = record b { calls = set b.calls k (enter_call true c) }
 
-    seen : entered_view k (view_of p) ≡ view_of (after_admit p (entry_of (suc k) c.core) (admits.Enter place)).state
+    seen : entered_view k (view_of p) ≡ view_of (after_admit p (entry_of (suc k) c.core) (admits.Enter index)).state
     seen = ap (λ t. record (entered_view k (view_of p)) { driven = t })
-        (sym (other_set p.domain.contexts c.core.thread (Some (entry_context (slice_index p.domain.starts place) c.core.thread (arguments_of c.core.thread c.core.op)))
+        (sym (other_set p.domain.contexts c.core.thread (Some (entry_context (slice_index p.domain.starts index) c.core.thread (arguments_of c.core.thread c.core.op)))
         (λ e. omega (arith, e, (u.facts.calls.each k c.core (enter_at (view_of p) b k c u)).thread))))
 
 -- ---- the class answers it
 
--- what is to be shown of the class's answer
+-- what must be shown of the class's answer
 record Replied (v : View) (b : Past) (k : ℕ) (c : Call) (a : Answer) (queue : List (List ℕ)) : Type 0 where
   frames : List (List ℕ)
   plain : is_write c.core.op ≡ false
@@ -268,25 +268,25 @@ open_enters p b k c u l (Some h) e = reply_ok p b k (with_op Open c) (answered.I
     (record { may = ap (λ x. is_holder x h) e ∙ eq-eqb h h refl; after = refl })
     (λ t. refl) (λ q w. refl) (omega arith))
 
-play_enters : (p : PartState) (b : Past) (k place : ℕ) (samples : List ℕ) (c : Call) → MayEnter (view_of p) b k (with_op (Play samples) c) → length p.domain.contexts ≡ 17
+play_enters : (p : PartState) (b : Past) (k index : ℕ) (samples : List ℕ) (c : Call) → MayEnter (view_of p) b k (with_op (Play samples) c) → length p.domain.contexts ≡ 17
     → (t : Bool) → is_holder p.log.holder c.core.thread ≡ t
-    → StepKeeps p b (after_admit p (entry_of (suc k) (with_op (Play samples) c).core) (admit_holder t place))
-play_enters p b k place samples c u l true e = enters_ok p b k place (with_op (Play samples) c) u l (is_the_holder p.log.holder c.core.thread e)
-play_enters p b k place samples c u l false e = reply_ok p b k (with_op (Play samples) c) answered.NotOpen u l
+    → StepKeeps p b (after_admit p (entry_of (suc k) (with_op (Play samples) c).core) (admit_holder t index))
+play_enters p b k index samples c u l true e = enters_ok p b k index (with_op (Play samples) c) u l (is_the_holder p.log.holder c.core.thread e)
+play_enters p b k index samples c u l false e = reply_ok p b k (with_op (Play samples) c) answered.NotOpen u l
     (plain_reply (view_of p) b k (with_op (Play samples) c) answered.NotOpen u refl
     (record { may = ap not e; after = refl })
     (λ t. refl) (λ q w. refl) (omega arith))
 
-close_enters : (p : PartState) (b : Past) (k place : ℕ) (c : Call) → MayEnter (view_of p) b k (with_op Close c) → length p.domain.contexts ≡ 17
+close_enters : (p : PartState) (b : Past) (k index : ℕ) (c : Call) → MayEnter (view_of p) b k (with_op Close c) → length p.domain.contexts ≡ 17
     → (t : Bool) → is_holder p.log.holder c.core.thread ≡ t
-    → StepKeeps p b (after_admit p (entry_of (suc k) (with_op Close c).core) (admit_holder t place))
-close_enters p b k place c u l true e = enters_ok p b k place (with_op Close c) u l (is_the_holder p.log.holder c.core.thread e)
-close_enters p b k place c u l false e = reply_ok p b k (with_op Close c) answered.NotOpen u l
+    → StepKeeps p b (after_admit p (entry_of (suc k) (with_op Close c).core) (admit_holder t index))
+close_enters p b k index c u l true e = enters_ok p b k index (with_op Close c) u l (is_the_holder p.log.holder c.core.thread e)
+close_enters p b k index c u l false e = reply_ok p b k (with_op Close c) answered.NotOpen u l
     (plain_reply (view_of p) b k (with_op Close c) answered.NotOpen u refl
     (record { may = ap not e; after = refl })
     (λ t. refl) (λ q w. refl) (omega arith))
 
--- a Recv takes the front of the queue
+-- a Recv takes the first frame of the queue
 recv_takes : (p : PartState) (b : Past) (k : ℕ) (c : Call) → MayEnter (view_of p) b k (with_op Recv c)
     → (queue : List (List ℕ)) → p.queue ≡ queue → eqb (length p.queue) 0 ≡ false
     → Replied (view_of p) b k (with_op Recv c) (answered.Frame (head_of queue)) (tail_of queue)
@@ -325,18 +325,18 @@ recv_takes p b k c u (frame ∷ queue) e n = taken (sub_front frame (queue ++ (b
 admits_ok : (p : PartState) (b : Past) (k : ℕ) (o : Op) (c : Call) → MayEnter (view_of p) b k (with_op o c) → length p.domain.contexts ≡ 17
     → StepKeeps p b (after_admit p (entry_of (suc k) (with_op o c).core) (admit p.spec.class c.core.thread o p.log.holder (length p.queue)))
 admits_ok p b k Recv c u l = split (eqb (length p.queue) 0)
-    (λ t. subst (λ x. StepKeeps p b (after_admit p (entry_of (suc k) (with_op Recv c).core) x)) (sym (cond-true (eqb (length p.queue) 0) (admits.Enter (entry_place p.spec.class Recv)) admits.TakeFrame t))
-    (enters_ok p b k (entry_place p.spec.class Recv) (with_op Recv c) u l tt))
-    (λ t. subst (λ x. StepKeeps p b (after_admit p (entry_of (suc k) (with_op Recv c).core) x)) (sym (cond-false (eqb (length p.queue) 0) (admits.Enter (entry_place p.spec.class Recv)) admits.TakeFrame t))
+    (λ t. subst (λ x. StepKeeps p b (after_admit p (entry_of (suc k) (with_op Recv c).core) x)) (sym (cond-true (eqb (length p.queue) 0) (admits.Enter (entry_address p.spec.class Recv)) admits.TakeFrame t))
+    (enters_ok p b k (entry_address p.spec.class Recv) (with_op Recv c) u l tt))
+    (λ t. subst (λ x. StepKeeps p b (after_admit p (entry_of (suc k) (with_op Recv c).core) x)) (sym (cond-false (eqb (length p.queue) 0) (admits.Enter (entry_address p.spec.class Recv)) admits.TakeFrame t))
     (take_ok p b k (with_op Recv c) u l (recv_takes p b k c u p.queue refl t)))
 admits_ok p b k Open c u l = open_enters p b k c u l p.log.holder refl
-admits_ok p b k (Play samples) c u l = play_enters p b k (entry_place p.spec.class (Play samples)) samples c u l (is_holder p.log.holder c.core.thread) refl
-admits_ok p b k Close c u l = close_enters p b k (entry_place p.spec.class Close) c u l (is_holder p.log.holder c.core.thread) refl
-admits_ok p b k (Read first count) c u l = enters_ok p b k (entry_place p.spec.class (Read first count)) (with_op (Read first count) c) u l tt
-admits_ok p b k (Write first words) c u l = enters_ok p b k (entry_place p.spec.class (Write first words)) (with_op (Write first words) c) u l tt
-admits_ok p b k (Send frame) c u l = enters_ok p b k (entry_place p.spec.class (Send frame)) (with_op (Send frame) c) u l tt
-admits_ok p b k (Get key) c u l = enters_ok p b k (entry_place p.spec.class (Get key)) (with_op (Get key) c) u l tt
-admits_ok p b k (Set key value) c u l = enters_ok p b k (entry_place p.spec.class (Set key value)) (with_op (Set key value) c) u l tt
+admits_ok p b k (Play samples) c u l = play_enters p b k (entry_address p.spec.class (Play samples)) samples c u l (is_holder p.log.holder c.core.thread) refl
+admits_ok p b k Close c u l = close_enters p b k (entry_address p.spec.class Close) c u l (is_holder p.log.holder c.core.thread) refl
+admits_ok p b k (Read first count) c u l = enters_ok p b k (entry_address p.spec.class (Read first count)) (with_op (Read first count) c) u l tt
+admits_ok p b k (Write first words) c u l = enters_ok p b k (entry_address p.spec.class (Write first words)) (with_op (Write first words) c) u l tt
+admits_ok p b k (Send frame) c u l = enters_ok p b k (entry_address p.spec.class (Send frame)) (with_op (Send frame) c) u l tt
+admits_ok p b k (Get key) c u l = enters_ok p b k (entry_address p.spec.class (Get key)) (with_op (Get key) c) u l tt
+admits_ok p b k (Set key value) c u l = enters_ok p b k (entry_address p.spec.class (Set key value)) (with_op (Set key value) c) u l tt
 
 -- ---- the step
 
@@ -355,32 +355,32 @@ enter_ok p b t f l h = by_call (call_of_thread t p.log.pending) refl parts.1
     parts = and_parts (is_running p.mode) (is_ready p (call_of_thread t p.log.pending)) h
 
     with_call : (e : CallEntry) → is_ready p (Some e) ≡ true → (g : Found 1 (cores b) t e)
-        → (c : Call) × At b.calls g.place c × (g.core ≡ core_of c) → StepKeeps p b (entered_by p t (Some e))
+        → (c : Call) × At b.calls g.index c × (g.core ≡ core_of c) → StepKeeps p b (entered_by p t (Some e))
     with_call e r g (c, at, s) = subst (λ x. StepKeeps p b (entered_by p t (Some x))) (sym entry)
-        (subst (λ n. StepKeeps p b (after_admit p (entry_of (suc g.place) c.core) (admit p.spec.class n c.core.op p.log.holder (length p.queue)))) thread
-        (admits_ok p b g.place c.core.op c may l))
+        (subst (λ n. StepKeeps p b (after_admit p (entry_of (suc g.index) c.core) (admit p.spec.class n c.core.op p.log.holder (length p.queue)))) thread
+        (admits_ok p b g.index c.core.op c may l))
       where
-        entry : e ≡ entry_of (suc g.place) c.core
+        entry : e ≡ entry_of (suc g.index) c.core
         entry = g.entry ∙ ap₂ (λ n x. entry_of n x) (omega arith) s
 
         thread : c.core.thread ≡ t
         thread = ap (λ x. x.thread) (sym s) ∙ g.mine
 
-        ready : (not c.core.inside ≡ true) × (not (is_blocked p.spec.class (entry_of (suc g.place) c.core) p.log.pending) ≡ true)
-        ready = and_parts (not c.core.inside) (not (is_blocked p.spec.class (entry_of (suc g.place) c.core) p.log.pending)) (ap (λ x. is_ready p (Some x)) (sym entry) ∙ r)
+        ready : (not c.core.inside ≡ true) × (not (is_blocked p.spec.class (entry_of (suc g.index) c.core) p.log.pending) ≡ true)
+        ready = and_parts (not c.core.inside) (not (is_blocked p.spec.class (entry_of (suc g.index) c.core) p.log.pending)) (ap (λ x. is_ready p (Some x)) (sym entry) ∙ r)
 
-        unblocked : list_any (blocks_call p.spec.class (entry_of (suc g.place) c.core)) (open_from 1 (cores b)) ≡ false
-        unblocked = ap (λ q. list_any (blocks_call p.spec.class (entry_of (suc g.place) c.core)) q) (sym f.pending)
-            ∙ not-true (is_blocked p.spec.class (entry_of (suc g.place) c.core) p.log.pending) ready.1
+        unblocked : list_any (blocks_call p.spec.class (entry_of (suc g.index) c.core)) (open_from 1 (cores b)) ≡ false
+        unblocked = ap (λ q. list_any (blocks_call p.spec.class (entry_of (suc g.index) c.core)) q) (sym f.pending)
+            ∙ not-true (is_blocked p.spec.class (entry_of (suc g.index) c.core) p.log.pending) ready.1
 
-        may : MayEnter (view_of p) b g.place c
+        may : MayEnter (view_of p) b g.index c
         may = record {
           facts = f;
           running = running_mode p.mode parts.0;
           at = at;
           waits = ap (λ x. x.waits) (sym s) ∙ g.waits;
           held = not-true c.core.inside ready.0;
-          free = λ j d i w n. open_apart p.spec.class (entry_of (suc g.place) c.core) 1 (cores b) unblocked j d i w (lt-ltb (1 + j) (suc g.place) (omega (arith, n)));
+          free = λ j d i w n. open_apart p.spec.class (entry_of (suc g.index) c.core) 1 (cores b) unblocked j d i w (lt-ltb (1 + j) (suc g.index) (omega (arith, n)));
         }
 
     by_call : (x : Option CallEntry) → call_of_thread t p.log.pending ≡ x → is_ready p x ≡ true → StepKeeps p b (entered_by p t x)
@@ -388,4 +388,4 @@ enter_ok p b t f l h = by_call (call_of_thread t p.log.pending) refl parts.1
     by_call (Some e) q r = with_found (open_find 1 (cores b) t e (ap (find (is_of_thread t)) (sym f.pending) ∙ q))
       where
         with_found : Found 1 (cores b) t e → StepKeeps p b (entered_by p t (Some e))
-        with_found g = with_call e r g (from_map core_of b.calls g.place g.core g.at)
+        with_found g = with_call e r g (from_map core_of b.calls g.index g.core g.at)

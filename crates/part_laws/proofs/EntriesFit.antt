@@ -99,7 +99,7 @@ borrowed_at heap object (e ∷ entries) start all h = split (is_borrow_of object
 
 -- the order
 
--- an entry that is not the registration stands before it
+-- an entry other than the registration comes before it
 before_registration : (e x : Entry) → is_registration e ≡ false → is_registration x ≡ true → comes_before e x ≡ true
 before_registration (entry.Heap start len) (entry.Registration live) a b = refl
 before_registration (entry.Borrow object start) (entry.Registration live) a b = refl
@@ -136,7 +136,7 @@ not_both e x h = elim (or_cases (nat_lt (rank e) (rank x)) (rank e == rank x && 
         (λ same. let s : rank x ≡ rank e = eqb-true (rank x) (rank e) same in absurd (omega arith))
         (λ other. other)
 
--- an entry does not come before another: where their ranks and keys stand
+-- an entry does not come before another, by their ranks and keys
 NotBefore : Entry → Entry → Type 0
 NotBefore y x = (rank x < rank y) ⊎ ((rank x ≡ rank y) × (key_of x ≤ key_of y))
 
@@ -193,7 +193,7 @@ with_entry_ordered e (x ∷ y ∷ entries) plain ordered =
     (λ first. rw (first, with_entry) (plain, not_both e x first, ordered))
     (λ later. split (comes_before e y)
     (λ next. rw (later, with_entry, next) (ordered.0, later, rw (next, with_entry) at more))
-    (λ behind. rw (later, with_entry, behind) (ordered.0, ordered.1, rw (behind, with_entry) at more)))
+    (λ rest_after. rw (later, with_entry, rest_after) (ordered.0, ordered.1, rw (rest_after, with_entry) at more)))
 
 abbrev IsHeadOk : Entry → List Entry → Type 0
 IsHeadOk x [] = Unit {0}
@@ -282,7 +282,7 @@ without_borrow_ordered object entries ordered = filter_ordered (λ e. not (is_bo
 pub without_buffer_ordered : (context : ℕ) (entries : List Entry) → IsOrdered entries → IsOrdered (without_buffer context entries)
 without_buffer_ordered context entries ordered = filter_ordered (λ e. not (is_buffer_of context e)) entries (keeps_buffer context) ordered
 
--- what Collect leaves and releases
+-- what Collect keeps and releases
 
 abbrev pub IsCollected : List Entry → Type 0
 IsCollected entries = (live : Bool) × (entries ≡ released entries ++ entry.Registration live ∷ []) × (collected entries ≡ entry.Registration live ∷ [])

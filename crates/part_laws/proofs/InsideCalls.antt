@@ -9,7 +9,7 @@ use Rattle.machine_defs.proofs.BurstKeeps.{split}
 use Rattle.part_laws.proofs.TiedCalls.{found_above, without_call}
 use Rattle.part_laws.specs.Tied.{IsRising}
 
--- What a change of the open calls leaves Inside.
+-- Which calls remain Inside after a change of the open calls.
 
 -- the first element that passes
 
@@ -52,7 +52,7 @@ find_map f thread (d ∷ pending) c same h =
     at_head : Some d ≡ Some c → Some (f d) ≡ Some (f c)
     at_head e = let s : d ≡ c = cc in ap (λ (x : CallEntry). Some (f x)) s
 
--- open calls of one number are of one thread
+-- open calls with the same number belong to the same thread
 same_number : (k t low count : ℕ) (pending : List CallEntry) (d c : CallEntry) → IsRising low count pending
     → call_of_thread k pending ≡ Some d → call_of_thread t pending ≡ Some c → d.call ≡ c.call → k ≡ t
 same_number k t low count [] d c r a b e = cc
@@ -84,7 +84,7 @@ push_stays pending c thread h =
     let i : (d : CallEntry) × (call_of_thread thread pending ≡ Some d) × (d.inside ≡ true) = inside_call (call_of_thread thread pending) h in
     ap is_inside (find_push (is_of_thread thread) pending c i.0 i.1) ∙ i.2
 
--- an answered call leaves those of other threads
+-- when a call is answered, those of other threads stay Inside
 pub removed_stays : (thread low count : ℕ) (pending : List CallEntry) (c : CallEntry) (k : ℕ) → IsRising low count pending
     → call_of_thread thread pending ≡ Some c → (k == thread) ≡ false → is_inside (call_of_thread k pending) ≡ true
     → is_inside (call_of_thread k (without_call c.call pending)) ≡ true

@@ -20,7 +20,7 @@ use Rattle.part_laws.specs.Allowed.{allows}
 use Rattle.part_defs.specs.Log.{call_of_thread, with_call, with_answered_call, shadow_answer, queue_after}
 use Rattle.promise_defs.proofs.PromiseCases.{closes}
 use Rattle.part_defs.proofs.PartCases.{invoked_by, is_of_thread, new_entry}
-use Rattle.nook_data.specs.Places.{at_number, change_number}
+use Rattle.nook_data.specs.Numbered.{at_number, change_number}
 use Rattle.part_defs.specs.State.{PartState}
 use Rattle.part_defs.specs.Steps.{can_invoke}
 use Rattle.promise_defs.specs.Trace.{Visible, Track, called, answer, kept_blocks}
@@ -35,7 +35,7 @@ use Rattle.part_laws.proofs.Balances.{TakesFrame, answered_balance}
 use Rattle.part_laws.proofs.Closing.{comes_due, due_shown}
 use Rattle.part_laws.proofs.Keeping.{calls_push, disk_same, writes_push}
 use Rattle.part_laws.proofs.OpenCalls.{open_none, none_waits, open_push}
-use Rattle.part_laws.proofs.Places.{get_push, get_keep, get_mid, set_mid, map_push, length_map, change_at}
+use Rattle.part_laws.proofs.Indices.{get_push, get_keep, get_mid, set_mid, map_push, length_map, change_at}
 use Rattle.part_laws.proofs.Shadow.{ShadowSays, shadow_says}
 use Rattle.part_laws.proofs.Stages.{with_mode}
 use Rattle.part_laws.specs.Recovery.{StepKeeps}
@@ -71,7 +71,7 @@ op_refuses class size (Set key value) = either (nat_le key 3) (cond (nat_le valu
 refuses : (class : Class) (size : ℕ) (o : Op) → Refuses (static_check class size o)
 refuses class size o = either (is_of_class class o) (check_op class size o) (Some answered.BadClass) (op_refuses class size o) refl
 
--- what holds of each answer of the static check
+-- a proof by the answers that the static check may give
 by_refusal : (P : Answer → Type 0) (a : Answer) → same_refusal a a ≡ true → P answered.BadClass → P answered.BadLength
     → P answered.BadRange → P answered.BadKey → P answered.BadValue → P a
 by_refusal P answered.BadClass h c l r k v = c
@@ -97,7 +97,7 @@ refusal_allowed s q w n a h = by_refusal (λ a. allows s q w n a ≡ true) a h r
 refusal_takes : (q : List (List ℕ)) (a : Answer) → same_refusal a a ≡ true → TakesFrame a q q
 refusal_takes q a h = by_refusal (λ a. TakesFrame a q q) a h (omega arith) (omega arith) (omega arith) (omega arith) (omega arith)
 
--- the never-failing device gives it too, and stays as it is
+-- the never-failing device gives it too, and does not change
 refusal_due : (m : Ideal) (o : Opened) (a : Answer) → static_check m.class m.size o.op ≡ Some a → same_refusal a a ≡ true → is_due m o a ≡ true
 refusal_due m o a e h = rw (e, is_due) h
 
@@ -121,7 +121,7 @@ refusal_leaves m thread (Get key) stored a h =
 refusal_leaves m thread (Set key value) stored a h =
     by_refusal (λ a. after_answer m thread (Set key value) a stored ≡ m) a h refl refl refl refl refl
 
--- ---- the facts behind a call that is made
+-- ---- the facts after a call is made
 
 abbrev made_past : ℕ → Op → Bool → List (List ℕ) → Past → Past
 made_past t o w frames b = record b { calls = b.calls ++ made_call t o w ∷ []; frames = frames }
@@ -177,7 +177,7 @@ made_facts v b t o w pending queue frames f small checked alone p chain running 
 
     setting : (key value : ℕ) → IsSetting (cores b) key value → IsSetting (cores b ++ new_core t o w ∷ []) key value
     setting key value s = record
-        { place = s.place; call = s.call; at = get_keep (cores b) (new_core t o w ∷ []) s.place s.call s.at; inside = s.inside; sets = s.sets }
+        { index = s.index; call = s.call; at = get_keep (cores b) (new_core t o w ∷ []) s.index s.call s.at; inside = s.inside; sets = s.sets }
 
 -- ---- what is shown
 
@@ -191,7 +191,7 @@ called_shown v b t o more n alone = ran_step (ideal_of v b) (record (ideal_of v 
     (eq-eqb (v.count + 1) (suc (length (map as_opened b.calls))) (omega (arith, n, length_map as_opened b.calls)))
     (ap not (none_waits t b.calls alone))))
 
--- it is answered at once
+-- the call is answered at once
 closed_made : (v : View) (b : Past) (t : ℕ) (o : Op)
     → change_number stops_waiting (suc (length (map as_opened b.calls))) (map as_opened b.calls ++ opens t o ∷ []) ≡ map as_opened (b.calls ++ made_call t o false ∷ [])
 closed_made v b t o =
@@ -201,7 +201,7 @@ closed_made v b t o =
 
 -- ---- the step
 
--- what holds where a thread may invoke
+-- what holds if a thread may invoke
 pub record MayInvoke (v : View) (b : Past) (t : ℕ) : Type 0 where
   pub facts : Facts v b
   pub small : t < 16
@@ -223,7 +223,7 @@ may_invoke p b t f h = record {
     by_none None h = refl
     by_none (Some e) h = absurd cc
 
--- it stays open
+-- the call stays open
 held_ok : (p : PartState) (b : Past) (t : ℕ) (o : Op) → MayInvoke (view_of p) b t → static_check p.spec.class p.spec.blocks o ≡ None
     → length p.domain.contexts ≡ 17 → StepKeeps p b (invoked_with p t o None p.queue)
 unfolding with_call
@@ -242,12 +242,12 @@ held_ok p b t o u e l = record {
     tracked : tracks_of b ++ first_track o ∷ [] ≡ map as_track (map core_of (b.calls ++ made_call t o true ∷ []))
     tracked = sym (ap (map as_track) (map_push core_of b.calls (made_call t o true)) ∙ map_push as_track (cores b) (new_core t o true))
 
--- the never-failing device with the call made, and closed
+-- the never-failing device, with the call made and closed
 abbrev made_device : PartState → Past → ℕ → Op → Ideal
 made_device p b t o = closes (suc (length (map as_opened b.calls)))
     (record (ideal_of (view_of p) b) { opened = map as_opened b.calls ++ opens t o ∷ [] })
 
--- it is answered at once
+-- the call is answered at once
 answered_ok : (p : PartState) (b : Past) (t : ℕ) (o : Op) (a : Answer) (queue frames : List (List ℕ)) → MayInvoke (view_of p) b t
     → length p.domain.contexts ≡ 17 → Sub (queue ++ (b.rest ++ (view_of p).dev.ring)) frames → (p.mode ≡ mode.Running → queue ≡ p.queue)
     → is_due (made_device p b t o) (opens t o) a ≡ true
@@ -284,7 +284,7 @@ answered_ok p b t o a queue frames u l chain running due after allowed takes = r
     number : p.log.count + 1 ≡ suc (length (map as_opened b.calls))
     number = omega (arith, u.facts.count, length_map as_opened b.calls)
 
--- the shadow answers or holds it
+-- the shadow answers or holds the call
 shadow_step : (p : PartState) (b : Past) (t : ℕ) (o : Op) (s : Stage) → MayInvoke (view_of p) b t → static_check p.spec.class p.spec.blocks o ≡ None
     → length p.domain.contexts ≡ 17 → (p.mode ≡ mode.Running → ⊥) → recovery_stage p.mode ≡ Some s
     → (r : Option Answer) → ShadowSays (made_device p b t o) t o s p.queue (b.rest ++ (view_of p).dev.ring) r

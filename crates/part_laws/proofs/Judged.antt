@@ -14,7 +14,7 @@ use Rattle.part_laws.proofs.Licences.{licensed_alike}
 use Rattle.part_laws.proofs.Lost.{losses_alike}
 use Rattle.part_laws.proofs.OrderlyRuns.{run_orderly}
 
--- Over a run the folds by which the recovery theorem is proved say what the definitions say.
+-- Over a run the folds that prove the recovery theorem agree with the definitions.
 
 pub same_break : (spec : PartSpec) (journal : List Event) → IsRun spec journal
     → first_break spec.class spec.blocks journal ≡ watched_break spec.class spec.blocks journal

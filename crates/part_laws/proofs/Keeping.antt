@@ -7,9 +7,9 @@ use Rattle.nook_data.specs.Classes.{conflicts, covers, is_write, static_check}
 use Rattle.part_laws.specs.Facts.{At, CallFacts, CallsFacts, IsStored, DiskFacts, HolderFits, is_once}
 use Rattle.part_laws.specs.Moves.{new_core, enter_core}
 use Rattle.part_laws.specs.Views.{Core}
-use Rattle.part_laws.proofs.Places.{same_at, get_set_same, get_set_other, get_set, get_push, get_keep}
+use Rattle.part_laws.proofs.Indices.{same_at, get_set_same, get_set_other, get_set, get_push, get_keep}
 
--- The facts on calls and on the medium, through what a step makes of the calls.
+-- The facts on calls and on the medium, after a step changes the calls.
 
 -- ---- two open calls that were Inside do not conflict
 
@@ -23,7 +23,7 @@ no_conflict class size cs f j k c d hc hd n wc wd ac ad = by_order (cases_order 
     by_order (inr (inl l)) = inl (f.apart j k c d hc hd l wc wd ad)
     by_order (inr (inr l)) = inr (f.apart k j d c hd hc l wd wc ac)
 
--- ---- a call that is at most as open as it was
+-- ---- a call that is open only if it was open before
 
 pub record Less (c d : Core) : Type 0 where
   pub thread : d.thread ≡ c.thread
@@ -64,11 +64,11 @@ less_same c o = record
 -- one call is changed
 pub all_less_set : (class : Class) (size : ℕ) (cs : List Core) → CallsFacts class size cs
     → (k : ℕ) (c d : Core) → At cs k c → Less c d → AllLess cs (set cs k d)
-all_less_set class size cs f k c d h l j e i = by_place (get_set cs j k d e i)
+all_less_set class size cs f k c d h l j e i = by_position (get_set cs j k d e i)
   where
-    by_place : ((j ≡ k) × (e ≡ d)) ⊎ ((j ≡ k → ⊥) × At cs j e) → (c : Core) × At cs j c × Less c e
-    by_place (inl s) = (c, subst (λ p. At cs p c) (sym s.0) h, subst (λ x. Less c x) (sym s.1) l)
-    by_place (inr s) = (e, s.1, less_same e (f.each j e s.1).opened)
+    by_position : ((j ≡ k) × (e ≡ d)) ⊎ ((j ≡ k → ⊥) × At cs j e) → (c : Core) × At cs j c × Less c e
+    by_position (inl s) = (c, subst (λ p. At cs p c) (sym s.0) h, subst (λ x. Less c x) (sym s.1) l)
+    by_position (inr s) = (e, s.1, less_same e (f.each j e s.1).opened)
 
 -- the holder and the calls that are Inside
 pub holders_less : (holder : Option ℕ) (cs ds : List Core) → AllLess cs ds
@@ -155,7 +155,7 @@ calls_enter class size cs f k c h w free = record {
         ap (λ x. conflicts class x.op d.op) u.1 ∙ free i d s.1 wd (omega (arith, l, u.0))
     apart i j d e l wd we a (inr s) (inr u) = f.apart i j d e s.1 u.1 l wd we a
 
--- ---- the medium, where the open Writes stay with what they stored
+-- ---- the medium, if the open Writes keep what they stored
 
 pub record SameWrite (c d : Core) : Type 0 where
   pub waits : d.waits ≡ true
@@ -169,11 +169,11 @@ pub record SameWrites (cs ds : List Core) : Type 0 where
       → (c : Core) × At cs k c × (c.waits ≡ true) × SameWrite c d
 
 pub stored_same : (cs ds : List Core) → SameWrites cs ds → (n : ℕ) (words : List ℕ) → IsStored cs n words → IsStored ds n words
-stored_same cs ds s n words i = moved (s.forward i.place i.call i.at i.waits i.writes)
+stored_same cs ds s n words i = moved (s.forward i.index i.call i.at i.waits i.writes)
   where
-    moved : (d : Core) × At ds i.place d × SameWrite i.call d → IsStored ds n words
+    moved : (d : Core) × At ds i.index d × SameWrite i.call d → IsStored ds n words
     moved (d, h, t) = record {
-      place = i.place;
+      index = i.index;
       call = d;
       at = h;
       waits = t.waits;
@@ -226,18 +226,18 @@ writes_push cs t o w = record {
         false_true : false ≡ true → ⊥
         false_true e = absurd cc
 
--- one call is changed, and stays as it is where it is an open Write
+-- one call is changed, but stays as it is if it is an open Write
 pub writes_set : (cs : List Core) (k : ℕ) (c d : Core) → At cs k c
     → (c.waits ≡ true → is_write c.op ≡ true → SameWrite c d) → (d.waits ≡ true → is_write d.op ≡ true → (c.waits ≡ true) × SameWrite c d)
     → SameWrites cs (set cs k d)
 writes_set cs k c d h there here = record {
-  forward = λ j e i we w. by_place j e i we w (cases_eq j k);
+  forward = λ j e i we w. by_position j e i we w (cases_eq j k);
   back = λ j e n i we w b. old j e we w (get_set cs j k d e i);
 }
   where
-    by_place : (j : ℕ) (e : Core) → At cs j e → e.waits ≡ true → is_write e.op ≡ true → (j ≡ k) ⊎ (j ≡ k → ⊥)
+    by_position : (j : ℕ) (e : Core) → At cs j e → e.waits ≡ true → is_write e.op ≡ true → (j ≡ k) ⊎ (j ≡ k → ⊥)
         → (x : Core) × At (set cs k d) j x × SameWrite e x
-    by_place j e i we w (inl s) = (
+    by_position j e i we w (inl s) = (
       d,
       subst (λ p. At (set cs k d) p d) (sym s) (get_set_same cs k c d h),
       subst (λ x. SameWrite x d) (sym same)
@@ -246,7 +246,7 @@ writes_set cs k c d h there here = record {
       where
         same : e ≡ c
         same = same_at cs k e c (subst (λ p. At cs p e) s i) h
-    by_place j e i we w (inr n) =
+    by_position j e i we w (inr n) =
         (e, get_set_other cs j k d n ∙ i, record { waits = we; op = refl; entered = λ a. a; stored = refl })
 
     old : (j : ℕ) (e : Core) → e.waits ≡ true → is_write e.op ≡ true → ((j ≡ k) × (e ≡ d)) ⊎ ((j ≡ k → ⊥) × At cs j e)

@@ -1,4 +1,4 @@
--- What is known where a monitor watches.
+-- What is known while a monitor watches.
 use Rattle.std.proofs.Common.{◌≡◌, ℕ, Bool, Option, List}
 use Rattle.part_laws.specs.Watch.{Watch}
 use Rattle.nook_data.specs.declared.clause.Clause.{Clause}
@@ -7,7 +7,7 @@ use Rattle.nook_data.specs.Clauses.{all_clauses}
 use Rattle.part_laws.proofs.Picked.{picked}
 use Rattle.part_laws.proofs.Smallest.{smallest_or}
 
--- what is known, by the flags of the calls
+-- what is known, according to the flags of the calls
 abbrev pub known_of : List Bool → Watch → Known
 known_of flags w = record {
   class = w.class;
@@ -20,7 +20,7 @@ known_of flags w = record {
   replay = w.replay;
 }
 
--- the smallest clause that a deed breaks, or that was broken before it
+-- the smallest clause that a deed breaks or that was broken before it
 abbrev pub smallest_of : List Bool → ℕ → Watch → Deed → Option ℕ
 smallest_of flags call w d =
     smallest_or all_clauses (λ clause. breaks clause (known_of flags w) (call_of call (known_of flags w).calls) d) w.clause

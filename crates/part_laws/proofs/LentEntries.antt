@@ -12,9 +12,9 @@ use Rattle.machine_defs.specs.Entries.{collected, free_start, borrow_start, with
 use Rattle.machine_defs.specs.Services.{served, alloc_served, borrow_served, give_back_served}
 use Rattle.machine_defs.proofs.BurstKeeps.{split}
 
--- What a change of the entry list leaves lent.
+-- Which loans remain after a change of the entry list.
 
--- no buffer is lent that was not
+-- a buffer is lent only if it was lent before
 abbrev pub NoMore : List Entry → List Entry → Type 0
 NoMore before after = (context : ℕ) → list_any (is_buffer_of context) after ≡ true → list_any (is_buffer_of context) before ≡ true
 
@@ -37,7 +37,7 @@ any_of_filter p test (x ∷ xs) h = split (test x)
 pub filter_no_more : (test : Entry → Bool) (entries : List Entry) → NoMore entries (filter test entries)
 filter_no_more test entries context h = any_of_filter (is_buffer_of context) test entries h
 
--- the context that leaves has no buffer
+-- the context that becomes free has no buffer
 left_free : (context : ℕ) (entries : List Entry) → list_any (is_buffer_of context) (without_buffer context entries) ≡ false
 left_free context entries =
     any-filter_same (is_buffer_of context) (λ e. not (is_buffer_of context e)) false (λ e h. ap not h) entries
@@ -62,7 +62,7 @@ pub collected_none : (entries : List Entry) → IsWithoutLoans (collected entrie
 collected_none entries context =
     any-filter_same (is_buffer_of context) is_registration false (not_registration context) entries
 
--- one entry more
+-- one more entry
 
 pub any_with_entry : (context : ℕ) (e : Entry) (entries : List Entry) → list_any (is_buffer_of context) (with_entry e entries) ≡ true
     → (is_buffer_of context e ≡ true) ⊎ (list_any (is_buffer_of context) entries ≡ true)

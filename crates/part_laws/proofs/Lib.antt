@@ -1,5 +1,5 @@
 pub mod BurstIsolation
-pub mod ActsTell
+pub mod ActsDetermine
 pub mod Words
 pub mod Objects
 pub mod EntriesFit
@@ -17,7 +17,7 @@ pub mod RunProgress
 pub mod Counts
 pub mod RunSmall
 pub mod ValidFits
-pub mod Places
+pub mod Indices
 pub mod OfClass
 pub mod OpenCalls
 pub mod Subs
@@ -51,7 +51,7 @@ pub mod Breaks
 pub mod Licences
 pub mod Numbers
 pub mod OrderlyRuns
-pub mod Tallies
+pub mod Effects
 pub mod Counting
 pub mod Lost
 pub mod Judged

@@ -1,4 +1,4 @@
--- Over orderly events losses are licensed where the fold of the contract licenses them.
+-- Over orderly events losses are licensed if the fold of the contract licenses them.
 use Rattle.std.proofs.Common.{◌≡◌, ◌⊎◌, inl, inr, ℕ, suc, ◌+◌, not, Bool, true, false, Option, Some, None, List, [], ◌∷◌, ◌++◌, map, length, sym, refl, ap, ap₂, ◌∙◌, subst, arith, option_map, is_some, eqb-true}
 use Rattle.std.specs.Prelude.{◌==◌, ◌&&◌, ◌||◌, nat_lt, is_none}
 use Rattle.std.specs.List.{list_any}
@@ -19,10 +19,10 @@ use Rattle.part_laws.specs.Watch.{Watch, Watched, enters, leaves, sees, sees_act
 use Rattle.nook_data.specs.Frames.{is_empty, is_empty as was_empty}
 use Rattle.part_laws.specs.Allowed.{allows as allowed, allows_each, allows_event, allows_option, has_failed as had_failed, is_served as was_served, is_served_found, licenses as allows_at, licensed_from as allowed_from}
 use Rattle.promise_defs.specs.Licence.{is_stage, shadow_stage}
-use Rattle.nook_data.specs.Places.{at_number, change_number}
+use Rattle.nook_data.specs.Numbered.{at_number, change_number}
 use Rattle.part_defs.specs.Runs.{state_after, step_of}
 use Rattle.part_defs.specs.State.{PartState}
-use Rattle.part_laws.proofs.Places.{split}
+use Rattle.part_laws.proofs.Indices.{split}
 use Rattle.nook_data.specs.Answers.{answers_of, one_answer}
 use Rattle.promise_defs.specs.Contract.{Known, OpenCall, known_after, after_failure, call_of, change_call}
 use Rattle.promise_defs.specs.Contract.{crossing_deeds, deeds_of, during}
@@ -36,7 +36,7 @@ use Rattle.part_laws.proofs.Known.{known_of}
 use Rattle.part_laws.proofs.Picked.{AreShut, at_one, change_at, change_one, find_at, opened_call, picked, picked_left, picked_push}
 use Rattle.part_laws.proofs.Replies.{same_empty}
 
--- ---- a call that is the same, but for whether it is Inside
+-- ---- a call that is the same, except for whether it is Inside
 
 abbrev Alike : Watched → Watched → Type 0
 Alike c d = (c.op ≡ d.op) × (c.sent ≡ d.sent) × (c.played ≡ d.played) × (c.failed ≡ d.failed)
@@ -104,7 +104,7 @@ call_failed n block None (Some d) a = absurd a
 call_failed n block (Some c) None a = absurd a
 call_failed n block (Some c) (Some d) a = ap (λ l. had_failed block (Some (record c { failed = l }))) a.3
 
--- an answer of an open call, by what is known with the event and by the fold after it
+-- an answer to an open call, by what is known with the event and by the fold after it
 answer_alike : (shadow : Option Stage) (queue : List (List ℕ)) (flags : List Bool) (w v : Watch) (call : ℕ) (a : Answer)
     → w.ring ≡ v.ring → is_open call 1 flags ≡ true → BothAlike (at_number call w.calls) (at_number call v.calls)
     → allows shadow queue (known_of flags w) call a ≡ allowed shadow queue v call a
@@ -222,7 +222,7 @@ burst_licensed shadow queue flags w context call burst count (end.Reply status) 
     next : Watch
     next = sees w (event.Burst context call burst count (end.Reply status) done (Some x) None)
 
--- a stage other than Stop answers none
+-- only Stop answers calls
 none_licensed : (shadow : Option Stage) (queue : List (List ℕ)) (k : Known) (v : Watch) (answers : List (ℕ × Answer)) → answers ≡ []
     → not (list_any (refuses shadow queue k) answers) ≡ allows_each shadow queue v answers
 none_licensed shadow queue k v answers e =

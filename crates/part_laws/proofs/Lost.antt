@@ -1,4 +1,4 @@
--- Over orderly events the sends and samples that are lost are those that are told.
+-- Over orderly events the lost sends and samples are those that are reported.
 use Rattle.std.proofs.Common.{◌≡◌, ◌⊎◌, inl, inr, ℕ, zero, suc, ◌+◌, ◌-◌, ◌||◌, ◌&&◌, not, Bool, true, false, cond, Option, Some, None, List, [], ◌∷◌, ◌++◌, map, length, filter, find, sym, refl, ap, ap₂, ◌∙◌, subst, arith, sum_by, count_by}
 use Rattle.std.specs.Prelude.{◌==◌, if◌then◌else◌, fold}
 use Rattle.std.specs.List.{list_any}
@@ -8,36 +8,36 @@ use Rattle.nook_data.specs.declared.machine.Act.{Act}
 use Rattle.nook_data.specs.declared.calls.Answer.{Answer}
 use Rattle.nook_data.specs.declared.steps.Event.{Event}
 use Rattle.nook_data.specs.declared.steps.Event.TheVariants as event
-use Rattle.nook_data.specs.declared.verdicts.Losses.{Losses as Told}
+use Rattle.nook_data.specs.declared.verdicts.Losses.{Losses as Determined}
 use Rattle.nook_data.specs.declared.calls.Op.{Op}
 use Rattle.nook_data.specs.declared.calls.Op.TheVariants as op
 use Rattle.nook_data.specs.declared.steps.Stage.{Stage}
 use Rattle.nook_data.specs.declared.steps.Stage.TheVariants as stage
-use Rattle.part_laws.specs.Counts.{Counted, Counts, count_acts, count_answer, count_answered, count_answers, count_event, count_handed, count_stage, counted, no_counts, samples_of, sends_of, told, is_done as was_done, lost_samples as samples_lost, lost_sends as sends_lost, counted_losses}
+use Rattle.part_laws.specs.Counts.{Counted, Counts, count_acts, count_answer, count_answered, count_answers, count_event, count_handed, count_stage, counted, no_counts, samples_of, sends_of, reported, is_done as was_done, lost_samples as samples_lost, lost_sends as sends_lost, counted_losses}
 use Rattle.promise_defs.specs.Losses.{handed_result as result_in}
-use Rattle.nook_data.specs.Places.{at_number, change_number}
-use Rattle.part_laws.proofs.Places.{split}
+use Rattle.nook_data.specs.Numbered.{at_number, change_number}
+use Rattle.part_laws.proofs.Indices.{split}
 use Rattle.nook_data.specs.Answers.{answers_of, one_answer}
-use Rattle.promise_defs.specs.Losses.{FramePlaces, Tally, all_answers, in_driver, in_ring, is_arrival, is_busy, is_done}
+use Rattle.promise_defs.specs.Losses.{FrameLocations, CallEffects, all_answers, in_driver, in_ring, is_arrival, is_busy, is_done}
 use Rattle.promise_defs.specs.Losses.{is_lost_arrival, is_received, is_refused, is_taken, lost_by, lost_from}
-use Rattle.promise_defs.specs.Losses.{lost_samples, lost_sends, losses, no_places, places_after, tallies_after}
-use Rattle.promise_defs.specs.Losses.{tallies_during}
+use Rattle.promise_defs.specs.Losses.{lost_samples, lost_sends, losses, no_locations, locations_after, call_effects_after}
+use Rattle.promise_defs.specs.Losses.{call_effects_during}
 use Rattle.promise_defs.proofs.PromiseChanges.{unplayed, unsent, with_acts}
-use Rattle.part_laws.specs.Orderly.{AreOwn, IsFitting, IsOrderlyFrom, flags_after, flags_during, is_open, is_told, kept_from}
-use Rattle.part_laws.proofs.Counting.{Adds, all_counted, arrived_adds, before_adds, before_answers, busy_adds, event_counted, grows, lost_adds, places_go, places_of, received_adds, refused_adds, same_done, taken_adds}
+use Rattle.part_laws.specs.Orderly.{AreOwn, IsFitting, IsOrderlyFrom, flags_after, flags_during, is_open, is_reported, kept_from}
+use Rattle.part_laws.proofs.Counting.{Adds, all_counted, arrived_adds, before_adds, before_answers, busy_adds, event_counted, grows, lost_adds, positions_go, locations_of, received_adds, refused_adds, same_done, taken_adds}
 use Rattle.part_laws.proofs.Picked.{at_one, change_at, change_one, find_at}
-use Rattle.part_laws.proofs.Tallies.{AreTold, acts_calls, counted_acts, handed_calls, tallied, tallied_answers, tallied_change, tallied_kept, tallied_push, tally_of, told_answers, told_change, told_push}
+use Rattle.part_laws.proofs.Effects.{AreReported, acts_calls, counted_acts, handed_calls, tallied, tallied_answers, tallied_change, tallied_kept, tallied_push, effects_of, reported_answers, reported_change, reported_push}
 
--- what a count of losses is: what an answer adds to it, and how it is seen from an open call
-record IsLoss (f : Counts → ℕ) (told_by : Bool → Option Counted → ℕ) (lost : Tally → ℕ) : Type 0 where
-  pub answered : (call : ℕ) (a : Answer) (n : Counts) → f (count_answer call a n) ≡ f n + told_by (was_done a) (at_number call n.calls)
+-- a count of losses: what an answer adds to it, and how it follows from an open call
+record IsLoss (f : Counts → ℕ) (reported_by : Bool → Option Counted → ℕ) (lost : CallEffects → ℕ) : Type 0 where
+  pub answered : (call : ℕ) (a : Answer) (n : Counts) → f (count_answer call a n) ≡ f n + reported_by (was_done a) (at_number call n.calls)
   pub before : (n : Counts) (e : Event) → f (before_answers n e) ≡ f n
-  pub done : (number : ℕ) (c : Counted) → c.answered ≡ false → told_by true (Some c) ≡ lost (tally_of number c)
-  pub undone : (o : Option Counted) → told_by false o ≡ 0
+  pub done : (number : ℕ) (c : Counted) → c.answered ≡ false → reported_by true (Some c) ≡ lost (effects_of number c)
+  pub undone : (o : Option Counted) → reported_by false o ≡ 0
 
 -- ---- answers in order
 
-sum_same : (g h : ℕ × Answer → ℕ) (number : ℕ) (answers : List (ℕ × Answer)) → is_told answers number ≡ false
+sum_same : (g h : ℕ × Answer → ℕ) (number : ℕ) (answers : List (ℕ × Answer)) → is_reported answers number ≡ false
     → ((a : ℕ × Answer) → (a.0 ≡ number → ⊥) → g a ≡ h a) → sum_by g answers ≡ sum_by h answers
 sum_same g h number [] t k = refl
 sum_same g h number (a ∷ answers) t k = split (a.0 == number)
@@ -54,58 +54,58 @@ found_other f number other first (c ∷ cs) d = split (first == other)
     (λ e. rw e (rw (ne_eqb first number (λ q. d (sym (eqb-true first other e) ∙ q))) refl))
     (λ e. rw e (found_other f number other (suc first) cs d))
 
--- each answer is of a number that no later one has
+-- no later answer has the same number
 abbrev AreOnce : List (ℕ × Answer) → Type 0
 AreOnce [] = Unit {0}
-AreOnce (a ∷ answers) = (is_told answers a.0 ≡ false) × AreOnce answers
+AreOnce (a ∷ answers) = (is_reported answers a.0 ≡ false) × AreOnce answers
 
 own_once : (flags : List Bool) (answers : List (ℕ × Answer)) → AreOwn flags answers → AreOnce answers
 own_once flags [] h = tt
 own_once flags (a ∷ answers) h = (h.1, own_once flags answers h.2)
 
-answers_lose : (f : Counts → ℕ) (told_by : Bool → Option Counted → ℕ) (lost : Tally → ℕ) → IsLoss f told_by lost
+answers_lose : (f : Counts → ℕ) (reported_by : Bool → Option Counted → ℕ) (lost : CallEffects → ℕ) → IsLoss f reported_by lost
     → (answers : List (ℕ × Answer)) (n : Counts) → AreOnce answers
-    → f (count_answers answers n) ≡ f n + sum_by (λ a. told_by (was_done a.1) (find_at a.0 1 n.calls)) answers
-answers_lose f told_by lost h [] n o = omega arith
-answers_lose f told_by lost h (a ∷ answers) n o =
-    let rest = answers_lose f told_by lost h answers (count_answer a.0 a.1 n) o.1 in
-    let first : f (count_answer a.0 a.1 n) ≡ f n + told_by (was_done a.1) (find_at a.0 1 n.calls) =
-    h.answered a.0 a.1 n ∙ ap (λ c. f n + told_by (was_done a.1) c) (at_one a.0 n.calls) in
-    let same : sum_by (λ b. told_by (was_done b.1) (find_at b.0 1 (change_number count_answered a.0 n.calls))) answers
-    ≡ sum_by (λ b. told_by (was_done b.1) (find_at b.0 1 n.calls)) answers =
-    sum_same (λ b. told_by (was_done b.1) (find_at b.0 1 (change_number count_answered a.0 n.calls)))
-    (λ b. told_by (was_done b.1) (find_at b.0 1 n.calls)) a.0 answers o.0
-    (λ b d. ap (told_by (was_done b.1)) (ap (find_at b.0 1) (change_one count_answered a.0 n.calls) ∙ found_other count_answered a.0 b.0 1 n.calls d)) in
-    let sum = sum_by-cons (λ b. told_by (was_done b.1) (find_at b.0 1 n.calls)) a answers in
+    → f (count_answers answers n) ≡ f n + sum_by (λ a. reported_by (was_done a.1) (find_at a.0 1 n.calls)) answers
+answers_lose f reported_by lost h [] n o = omega arith
+answers_lose f reported_by lost h (a ∷ answers) n o =
+    let rest = answers_lose f reported_by lost h answers (count_answer a.0 a.1 n) o.1 in
+    let first : f (count_answer a.0 a.1 n) ≡ f n + reported_by (was_done a.1) (find_at a.0 1 n.calls) =
+    h.answered a.0 a.1 n ∙ ap (λ c. f n + reported_by (was_done a.1) c) (at_one a.0 n.calls) in
+    let same : sum_by (λ b. reported_by (was_done b.1) (find_at b.0 1 (change_number count_answered a.0 n.calls))) answers
+    ≡ sum_by (λ b. reported_by (was_done b.1) (find_at b.0 1 n.calls)) answers =
+    sum_same (λ b. reported_by (was_done b.1) (find_at b.0 1 (change_number count_answered a.0 n.calls)))
+    (λ b. reported_by (was_done b.1) (find_at b.0 1 n.calls)) a.0 answers o.0
+    (λ b d. ap (reported_by (was_done b.1)) (ap (find_at b.0 1) (change_one count_answered a.0 n.calls) ∙ found_other count_answered a.0 b.0 1 n.calls d)) in
+    let sum = sum_by-cons (λ b. reported_by (was_done b.1) (find_at b.0 1 n.calls)) a answers in
     omega arith
 
 -- what one answer of an open call loses
-abbrev lost_found : (Tally → ℕ) → Answer → Option Tally → ℕ
+abbrev lost_found : (CallEffects → ℕ) → Answer → Option CallEffects → ℕ
 lost_found lost a found = elim found [ Some t ↦ if is_done a then lost t else 0 | None ↦ 0 ]
 
-one_lost : (f : Counts → ℕ) (told_by : Bool → Option Counted → ℕ) (lost : Tally → ℕ) → IsLoss f told_by lost
-    → (a : Answer) (number first : ℕ) (flags : List Bool) (cs : List Counted) → is_open number first flags ≡ true → AreTold flags cs
-    → told_by (was_done a) (find_at number first cs) ≡ lost_found lost a (find (λ t. t.number == number) (tallied first flags cs))
-one_lost f told_by lost h a number first [] cs i s = absurd cc
-one_lost f told_by lost h a number first (o ∷ flags) [] i s = absurd s
-one_lost f told_by lost h a number first (false ∷ flags) (c ∷ cs) i s = split (first == number)
+one_lost : (f : Counts → ℕ) (reported_by : Bool → Option Counted → ℕ) (lost : CallEffects → ℕ) → IsLoss f reported_by lost
+    → (a : Answer) (number first : ℕ) (flags : List Bool) (cs : List Counted) → is_open number first flags ≡ true → AreReported flags cs
+    → reported_by (was_done a) (find_at number first cs) ≡ lost_found lost a (find (λ t. t.number == number) (tallied first flags cs))
+one_lost f reported_by lost h a number first [] cs i s = absurd cc
+one_lost f reported_by lost h a number first (o ∷ flags) [] i s = absurd s
+one_lost f reported_by lost h a number first (false ∷ flags) (c ∷ cs) i s = split (first == number)
     (λ e. let k : false ≡ true = rw e at i in absurd cc)
-    (λ e. rw e (one_lost f told_by lost h a number (suc first) flags cs (rw e at i) s.1))
-one_lost f told_by lost h a number first (true ∷ flags) (c ∷ cs) i s = split (first == number)
-    (λ e. rw e (ap (λ b. told_by b (Some c)) (same_done a) ∙ by_done (is_done a)))
-    (λ e. rw e (one_lost f told_by lost h a number (suc first) flags cs (rw e at i) s.1))
+    (λ e. rw e (one_lost f reported_by lost h a number (suc first) flags cs (rw e at i) s.1))
+one_lost f reported_by lost h a number first (true ∷ flags) (c ∷ cs) i s = split (first == number)
+    (λ e. rw e (ap (λ b. reported_by b (Some c)) (same_done a) ∙ by_done (is_done a)))
+    (λ e. rw e (one_lost f reported_by lost h a number (suc first) flags cs (rw e at i) s.1))
   where
-    by_done : (b : Bool) → told_by b (Some c) ≡ (if b then lost (tally_of first c) else 0)
+    by_done : (b : Bool) → reported_by b (Some c) ≡ (if b then lost (effects_of first c) else 0)
     by_done true = h.done first c s.0
     by_done false = h.undone (Some c)
 
-all_lost : (f : Counts → ℕ) (told_by : Bool → Option Counted → ℕ) (lost : Tally → ℕ) → IsLoss f told_by lost
-    → (flags : List Bool) (cs : List Counted) (answers : List (ℕ × Answer)) → AreTold flags cs → AreOwn flags answers
-    → sum_by (λ a. told_by (was_done a.1) (find_at a.0 1 cs)) answers ≡ sum_by (lost_by lost (tallied 1 flags cs)) answers
-all_lost f told_by lost h flags cs [] s o = refl
-all_lost f told_by lost h flags cs (a ∷ answers) s o =
-    sum_by-cons (λ a. told_by (was_done a.1) (find_at a.0 1 cs)) a answers
-    ∙ ap₂ ◌+◌ (one_lost f told_by lost h a.1 a.0 1 flags cs o.0 s) (all_lost f told_by lost h flags cs answers s o.2)
+all_lost : (f : Counts → ℕ) (reported_by : Bool → Option Counted → ℕ) (lost : CallEffects → ℕ) → IsLoss f reported_by lost
+    → (flags : List Bool) (cs : List Counted) (answers : List (ℕ × Answer)) → AreReported flags cs → AreOwn flags answers
+    → sum_by (λ a. reported_by (was_done a.1) (find_at a.0 1 cs)) answers ≡ sum_by (lost_by lost (tallied 1 flags cs)) answers
+all_lost f reported_by lost h flags cs [] s o = refl
+all_lost f reported_by lost h flags cs (a ∷ answers) s o =
+    sum_by-cons (λ a. reported_by (was_done a.1) (find_at a.0 1 cs)) a answers
+    ∙ ap₂ ◌+◌ (one_lost f reported_by lost h a.1 a.0 1 flags cs o.0 s) (all_lost f reported_by lost h flags cs answers s o.2)
     ∙ sym (sum_by-cons (lost_by lost (tallied 1 flags cs)) a answers)
 
 -- ---- events
@@ -124,16 +124,16 @@ stage_calls (stage.ReplaySet key value) n = refl
 stage_calls stage.ReplayOpen n = refl
 stage_calls stage.Resume n = refl
 
-during_told : (flags : List Bool) (n : Counts) (e : Event) → AreTold flags n.calls → AreTold (flags_during flags e) (before_answers n e).calls
-during_told flags n (event.Invoke call thread o a) s = told_push flags n.calls o s
-during_told flags n (event.Enter call thread attempt a) s = s
-during_told flags n (event.Burst context call burst count e done a failure) s =
-    subst (AreTold flags) (sym (burst_calls n call (result_in e) done)) (told_change (counted_acts done) (λ c. refl) call 1 flags n.calls s)
-during_told flags n (event.Stage t answers released) s = subst (AreTold flags) (sym (stage_calls t n)) s
-during_told flags n (event.Arrive frame kept) s = s
+during_reported : (flags : List Bool) (n : Counts) (e : Event) → AreReported flags n.calls → AreReported (flags_during flags e) (before_answers n e).calls
+during_reported flags n (event.Invoke call thread o a) s = reported_push flags n.calls o s
+during_reported flags n (event.Enter call thread attempt a) s = s
+during_reported flags n (event.Burst context call burst count e done a failure) s =
+    subst (AreReported flags) (sym (burst_calls n call (result_in e) done)) (reported_change (counted_acts done) (λ c. refl) call 1 flags n.calls s)
+during_reported flags n (event.Stage t answers released) s = subst (AreReported flags) (sym (stage_calls t n)) s
+during_reported flags n (event.Arrive frame kept) s = s
 
-during_tallied : (flags : List Bool) (n : Counts) (e : Event) → AreTold flags n.calls → IsFitting flags e
-    → tallies_during (tallied 1 flags n.calls) e ≡ tallied 1 (flags_during flags e) (before_answers n e).calls
+during_tallied : (flags : List Bool) (n : Counts) (e : Event) → AreReported flags n.calls → IsFitting flags e
+    → call_effects_during (tallied 1 flags n.calls) e ≡ tallied 1 (flags_during flags e) (before_answers n e).calls
 during_tallied flags n (event.Invoke call thread o a) s h =
     ap (λ k. tallied 1 flags n.calls ++ record { number = k; op = o; sent = 0; played = 0 } ∷ []) (omega (arith, h))
     ∙ tallied_push 1 flags n.calls o s
@@ -163,35 +163,35 @@ event_own flags (event.Burst context call burst count e done a failure) h = h.1
 event_own flags (event.Stage t answers released) h = h.1
 event_own flags (event.Arrive frame kept) h = tt
 
--- ---- events that follow
+-- ---- consecutive events
 
-lost_alike : (f : Counts → ℕ) (told_by : Bool → Option Counted → ℕ) (lost : Tally → ℕ) → IsLoss f told_by lost
-    → (flags : List Bool) (n : Counts) (events : List Event) → AreTold flags n.calls → IsOrderlyFrom flags events
+lost_alike : (f : Counts → ℕ) (reported_by : Bool → Option Counted → ℕ) (lost : CallEffects → ℕ) → IsLoss f reported_by lost
+    → (flags : List Bool) (n : Counts) (events : List Event) → AreReported flags n.calls → IsOrderlyFrom flags events
     → f (fold count_event n events) ≡ f n + lost_from lost (tallied 1 flags n.calls) events
-lost_alike f told_by lost h flags n [] s o = omega arith
-lost_alike f told_by lost h flags n (e ∷ events) s o =
+lost_alike f reported_by lost h flags n [] s o = omega arith
+lost_alike f reported_by lost h flags n (e ∷ events) s o =
     let m : Counts = before_answers n e in
     let now : List Bool = flags_during flags e in
-    let told : AreTold now m.calls = during_told flags n e s in
-    let later : AreTold (flags_after flags e) (count_event n e).calls =
-    subst (λ (k : Counts). AreTold (flags_after flags e) k.calls) (sym (event_counted n e)) (told_answers (answers_of e) now m told) in
-    let seen : tallies_during (tallied 1 flags n.calls) e ≡ tallied 1 now m.calls = during_tallied flags n e s o.0 in
-    let left : tallied 1 (flags_after flags e) (count_event n e).calls ≡ tallies_after (tallied 1 flags n.calls) e =
+    let reported : AreReported now m.calls = during_reported flags n e s in
+    let later : AreReported (flags_after flags e) (count_event n e).calls =
+    subst (λ (k : Counts). AreReported (flags_after flags e) k.calls) (sym (event_counted n e)) (reported_answers (answers_of e) now m reported) in
+    let seen : call_effects_during (tallied 1 flags n.calls) e ≡ tallied 1 now m.calls = during_tallied flags n e s o.0 in
+    let left : tallied 1 (flags_after flags e) (count_event n e).calls ≡ call_effects_after (tallied 1 flags n.calls) e =
     ap (λ (k : Counts). tallied 1 (flags_after flags e) k.calls) (event_counted n e)
     ∙ sym (tallied_answers (answers_of e) (flags_after flags e) m)
     ∙ sym (tallied_kept (answers_of e) 1 now m.calls)
     ∙ ap (filter (λ t. not (list_any (λ a. a.0 == t.number) (answers_of e)))) (sym seen) in
-    let first : f (count_event n e) ≡ f n + sum_by (lost_by lost (tallies_during (tallied 1 flags n.calls) e)) (answers_of e) =
+    let first : f (count_event n e) ≡ f n + sum_by (lost_by lost (call_effects_during (tallied 1 flags n.calls) e)) (answers_of e) =
     ap f (event_counted n e)
-    ∙ answers_lose f told_by lost h (answers_of e) m (own_once now (answers_of e) (event_own flags e o.0))
-    ∙ ap₂ ◌+◌ (h.before n e) (all_lost f told_by lost h now m.calls (answers_of e) told (event_own flags e o.0)
+    ∙ answers_lose f reported_by lost h (answers_of e) m (own_once now (answers_of e) (event_own flags e o.0))
+    ∙ ap₂ ◌+◌ (h.before n e) (all_lost f reported_by lost h now m.calls (answers_of e) reported (event_own flags e o.0)
     ∙ ap (λ t. sum_by (lost_by lost t) (answers_of e)) (sym seen)) in
-    let rest : f (fold count_event (count_event n e) events) ≡ f (count_event n e) + lost_from lost (tallies_after (tallied 1 flags n.calls) e) events =
-    lost_alike f told_by lost h (flags_after flags e) (count_event n e) events later o.1
+    let rest : f (fold count_event (count_event n e) events) ≡ f (count_event n e) + lost_from lost (call_effects_after (tallied 1 flags n.calls) e) events =
+    lost_alike f reported_by lost h (flags_after flags e) (count_event n e) events later o.1
     ∙ ap (λ t. f (count_event n e) + lost_from lost t events) left in
     join (f (fold count_event (count_event n e) events)) (f (count_event n e)) (f n)
-    (sum_by (lost_by lost (tallies_during (tallied 1 flags n.calls) e)) (answers_of e))
-    (lost_from lost (tallies_after (tallied 1 flags n.calls) e) events) rest first
+    (sum_by (lost_by lost (call_effects_during (tallied 1 flags n.calls) e)) (answers_of e))
+    (lost_from lost (call_effects_after (tallied 1 flags n.calls) e) events) rest first
   where
     join : (x y z a b : ℕ) → x ≡ y + b → y ≡ z + a → x ≡ z + (a + b)
     join x y z a b h k = omega arith
@@ -236,25 +236,25 @@ samples_are = record {
 
 -- ---- all of them
 
-abbrev told_by : (sends samples busy arrived received taken lost refused : ℕ) → FramePlaces → Told
-told_by sends samples busy arrived received taken lost refused places = record {
+abbrev reported_by : (sends samples busy arrived received taken lost refused : ℕ) → FrameLocations → Determined
+reported_by sends samples busy arrived received taken lost refused locations = record {
   sends = sends;
   samples = samples;
   busy = busy;
   arrived = arrived;
   received = received;
   queued = taken - received;
-  ring = in_ring places;
-  driver = in_driver places;
-  reset = places.reset;
+  ring = in_ring locations;
+  driver = in_driver locations;
+  reset = locations.reset;
   full_ring = lost;
   full_queue = refused;
 }
 
-told_same : (s s' m m' b b' a a' r r' t t' l l' q q' : ℕ) (p p' : FramePlaces)
+reported_same : (s s' m m' b b' a a' r r' t t' l l' q q' : ℕ) (p p' : FrameLocations)
     → s ≡ s' → m ≡ m' → b ≡ b' → a ≡ a' → r ≡ r' → t ≡ t' → l ≡ l' → q ≡ q' → p ≡ p'
-    → told_by s m b a r t l q p ≡ told_by s' m' b' a' r' t' l' q' p'
-told_same s s' m m' b b' a a' r r' t t' l l' q q' p p' es em eb ea er et el eq ep =
+    → reported_by s m b a r t l q p ≡ reported_by s' m' b' a' r' t' l' q' p'
+reported_same s s' m m' b b' a a' r r' t t' l l' q q' p p' es em eb ea er et el eq ep =
     rw es (rw em (rw eb (rw ea (rw er (rw et (rw el (rw eq (rw ep refl))))))))
 
 from_none : (x y : ℕ) → x ≡ 0 + y → x ≡ y
@@ -264,9 +264,9 @@ pub losses_alike : (events : List Event) → IsOrderlyFrom [] events → losses 
 unfolding losses counted_losses
 losses_alike events o =
     let n : Counts = fold count_event no_counts events in
-    sym (told_same n.sends (lost_sends events) n.samples (lost_samples events) n.busy (count_by is_busy (all_answers events))
+    sym (reported_same n.sends (lost_sends events) n.samples (lost_samples events) n.busy (count_by is_busy (all_answers events))
     n.arrived (count_by is_arrival events) n.received (count_by is_received (all_answers events)) n.taken (count_by is_taken events)
-    n.lost (count_by is_lost_arrival events) n.refused (count_by is_refused events) (places_of n) (fold places_after no_places events)
+    n.lost (count_by is_lost_arrival events) n.refused (count_by is_refused events) (locations_of n) (fold locations_after no_locations events)
     (from_none n.sends (lost_sends events) (lost_alike (λ k. k.sends) sends_of (λ t. unsent t.op t.sent) sends_are [] no_counts events tt o))
     (from_none n.samples (lost_samples events) (lost_alike (λ k. k.samples) samples_of (λ t. unplayed t.op t.played) samples_are [] no_counts events tt o))
     (from_none n.busy (count_by is_busy (all_answers events))
@@ -277,4 +277,4 @@ losses_alike events o =
     (from_none n.taken (count_by is_taken events) (grows (λ k. k.taken) (λ e. cond (is_taken e) 1 0) taken_adds no_counts events))
     (from_none n.lost (count_by is_lost_arrival events) (grows (λ k. k.lost) (λ e. cond (is_lost_arrival e) 1 0) lost_adds no_counts events))
     (from_none n.refused (count_by is_refused events) (grows (λ k. k.refused) (λ e. cond (is_refused e) 1 0) refused_adds no_counts events))
-    (places_go no_counts events))
+    (positions_go no_counts events))

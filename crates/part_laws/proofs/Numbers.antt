@@ -11,8 +11,8 @@ use Rattle.part_defs.specs.Log.{call_of_thread, gone_answers, held_call, is_call
 use Rattle.part_defs.specs.Log.{stop_answers, with_answer}
 use Rattle.part_defs.proofs.PartCases.{change_entry, entered_call, is_of_thread, stop_calls}
 use Rattle.part_laws.proofs.Answered.{shadow_says}
-use Rattle.part_laws.proofs.Places.{some_same, split}
-use Rattle.part_laws.specs.Orderly.{AreOwn, is_open, is_told, kept_from}
+use Rattle.part_laws.proofs.Indices.{some_same, split}
+use Rattle.part_laws.specs.Orderly.{AreOwn, is_open, is_reported, kept_from}
 
 -- the numbers of the open calls, by their flags
 abbrev pub opened : ℕ → List Bool → List ℕ
@@ -78,9 +78,9 @@ found_has thread (x ∷ calls) c h = split (x.thread == thread)
 -- ---- flags
 
 pub opened_kept : (answers : List (ℕ × Answer)) (first : ℕ) (flags : List Bool)
-    → opened first (kept_from first answers flags) ≡ filter (λ n. not (is_told answers n)) (opened first flags)
+    → opened first (kept_from first answers flags) ≡ filter (λ n. not (is_reported answers n)) (opened first flags)
 opened_kept answers first [] = refl
-opened_kept answers first (true ∷ flags) = split (is_told answers first)
+opened_kept answers first (true ∷ flags) = split (is_reported answers first)
     (λ e. rw e (opened_kept answers (suc first) flags))
     (λ e. rw e (ap (λ l. first ∷ l) (opened_kept answers (suc first) flags)))
 opened_kept answers first (false ∷ flags) = opened_kept answers (suc first) flags
@@ -116,8 +116,8 @@ numbers_entered call (c ∷ calls) = split (c.call == call)
     (λ e. rw e (ap (λ l. c.call ∷ l) (numbers_entered call calls)))
     (λ e. rw e (ap (λ l. c.call ∷ l) (numbers_entered call calls)))
 
-one_told : (call n : ℕ) (a : Answer) → not (n == call) ≡ not (is_told ((call, a) ∷ []) n)
-one_told call n a = split (n == call)
+one_reported : (call n : ℕ) (a : Answer) → not (n == call) ≡ not (is_reported ((call, a) ∷ []) n)
+one_reported call n a = split (n == call)
     (λ e. rw e (rw (eq-eqb call n (sym (eqb-true n call e))) refl))
     (λ e. rw e (rw (ne_eqb call n (λ q. let f = eq-eqb n call (sym q) in absurd cc)) refl))
 
@@ -126,33 +126,33 @@ pub numbers_answered : (call : ℕ) (a : Answer) (calls : List CallEntry) (flags
 numbers_answered call a calls flags h =
     filter_map (λ n. not (n == call)) calls
     ∙ ap (filter (λ n. not (n == call))) h
-    ∙ filter_same (λ n. not (n == call)) (λ n. not (is_told ((call, a) ∷ []) n)) 1 (opened 1 flags) (opened_rises 1 flags) (λ n l. one_told call n a)
+    ∙ filter_same (λ n. not (n == call)) (λ n. not (is_reported ((call, a) ∷ []) n)) 1 (opened 1 flags) (opened_rises 1 flags) (λ n l. one_reported call n a)
     ∙ sym (opened_kept ((call, a) ∷ []) 1 flags)
 
 -- ---- Stop
 
-told_with : (n call : ℕ) (o : Option Answer) (answers : List (ℕ × Answer)) → (call ≡ n → ⊥) → is_told answers n ≡ false
-    → is_told (with_answer call o answers) n ≡ false
-told_with n call None answers d h = h
-told_with n call (Some a) answers d h = rw (ne_eqb call n d) h
+reported_with : (n call : ℕ) (o : Option Answer) (answers : List (ℕ × Answer)) → (call ≡ n → ⊥) → is_reported answers n ≡ false
+    → is_reported (with_answer call o answers) n ≡ false
+reported_with n call None answers d h = h
+reported_with n call (Some a) answers d h = rw (ne_eqb call n d) h
 
 stop_below : (n low : ℕ) (calls : List CallEntry) (config : List ℕ) (holder : Option ℕ) (queue : List (List ℕ)) → RisesFrom low (numbers_of calls) → n < low
-    → is_told (stop_answers calls config holder queue) n ≡ false
+    → is_reported (stop_answers calls config holder queue) n ≡ false
 stop_below n low [] config holder queue r l = refl
 stop_below n low (c ∷ calls) config holder queue r l =
     let first : low ≤ c.call = r.0 in
-    told_with n c.call (shadow_answer c.op c.thread config holder stage.Stop queue) (stop_answers calls config holder (queue_after c.op queue))
+    reported_with n c.call (shadow_answer c.op c.thread config holder stage.Stop queue) (stop_answers calls config holder (queue_after c.op queue))
     (λ e. omega arith) (stop_below n (suc c.call) calls config holder (queue_after c.op queue) r.1 (omega arith))
 
--- behind a call that is answered the others are as they were
-past_told : (call : ℕ) (a : Answer) (answers : List (ℕ × Answer)) (ns : List ℕ) → RisesFrom (suc call) ns
-    → filter (λ n. not (is_told ((call, a) ∷ answers) n)) ns ≡ filter (λ n. not (is_told answers n)) ns
-past_told call a answers ns r =
-    filter_same (λ n. not (is_told ((call, a) ∷ answers) n)) (λ n. not (is_told answers n)) (suc call) ns r
+-- after an answered call the others are as they were
+past_reported : (call : ℕ) (a : Answer) (answers : List (ℕ × Answer)) (ns : List ℕ) → RisesFrom (suc call) ns
+    → filter (λ n. not (is_reported ((call, a) ∷ answers) n)) ns ≡ filter (λ n. not (is_reported answers n)) ns
+past_reported call a answers ns r =
+    filter_same (λ n. not (is_reported ((call, a) ∷ answers) n)) (λ n. not (is_reported answers n)) (suc call) ns r
     (λ n l. rw (ne_eqb call n (λ e. omega arith)) refl)
 
 pub stop_keeps : (low : ℕ) (calls : List CallEntry) (config : List ℕ) (holder : Option ℕ) (queue : List (List ℕ)) → RisesFrom low (numbers_of calls)
-    → filter (λ n. not (is_told (stop_answers calls config holder queue) n)) (numbers_of calls) ≡ numbers_of (stop_calls calls)
+    → filter (λ n. not (is_reported (stop_answers calls config holder queue) n)) (numbers_of calls) ≡ numbers_of (stop_calls calls)
 stop_keeps low [] config holder queue r = refl
 stop_keeps low (c ∷ calls) config holder queue r =
     by_shadow (stop_keeps (suc c.call) calls config holder (queue_after c.op queue) r.1) (shadow_says c.op c.thread config holder queue)
@@ -161,25 +161,25 @@ stop_keeps low (c ∷ calls) config holder queue r =
     rest = stop_answers calls config holder (queue_after c.op queue)
 
     left : List ℕ
-    left = filter (λ m. not (is_told rest m)) (numbers_of calls)
+    left = filter (λ m. not (is_reported rest m)) (numbers_of calls)
 
     others : Answer → List ℕ
-    others a = filter (λ m. not (is_told ((c.call, a) ∷ rest) m)) (numbers_of calls)
+    others a = filter (λ m. not (is_reported ((c.call, a) ∷ rest) m)) (numbers_of calls)
 
-    by_shadow : filter (λ n. not (is_told (stop_answers calls config holder (queue_after c.op queue)) n)) (numbers_of calls) ≡ numbers_of (stop_calls calls)
+    by_shadow : filter (λ n. not (is_reported (stop_answers calls config holder (queue_after c.op queue)) n)) (numbers_of calls) ≡ numbers_of (stop_calls calls)
         → ((is_held c.op ≡ true) × (shadow_answer c.op c.thread config holder stage.Stop queue ≡ None))
         ⊎ ((is_held c.op ≡ false) × ((a : Answer) × (shadow_answer c.op c.thread config holder stage.Stop queue ≡ Some a)))
-        → filter (λ n. not (is_told (stop_answers (c ∷ calls) config holder queue) n)) (numbers_of (c ∷ calls)) ≡ numbers_of (stop_calls (c ∷ calls))
+        → filter (λ n. not (is_reported (stop_answers (c ∷ calls) config holder queue) n)) (numbers_of (c ∷ calls)) ≡ numbers_of (stop_calls (c ∷ calls))
     by_shadow later (inl (k, n)) =
-        ap (λ o. filter (λ m. not (is_told (with_answer c.call o rest) m)) (c.call ∷ numbers_of calls)) n
+        ap (λ o. filter (λ m. not (is_reported (with_answer c.call o rest) m)) (c.call ∷ numbers_of calls)) n
         ∙ ap (λ b. cond (not b) (c.call ∷ left) left)
         (stop_below c.call (suc c.call) calls config holder (queue_after c.op queue) r.1 (omega arith))
         ∙ ap (λ l. c.call ∷ l) later
         ∙ ap (λ b. numbers_of (map held_call (cond b (c ∷ filter (λ d. is_held d.op) calls) (filter (λ d. is_held d.op) calls)))) (sym k)
     by_shadow later (inr (k, (a, n))) =
-        ap (λ o. filter (λ m. not (is_told (with_answer c.call o rest) m)) (c.call ∷ numbers_of calls)) n
-        ∙ ap (λ b. cond (not (b || is_told rest c.call)) (c.call ∷ others a) (others a)) (eq-eqb c.call c.call refl)
-        ∙ past_told c.call a rest (numbers_of calls) r.1
+        ap (λ o. filter (λ m. not (is_reported (with_answer c.call o rest) m)) (c.call ∷ numbers_of calls)) n
+        ∙ ap (λ b. cond (not (b || is_reported rest c.call)) (c.call ∷ others a) (others a)) (eq-eqb c.call c.call refl)
+        ∙ past_reported c.call a rest (numbers_of calls) r.1
         ∙ later
         ∙ ap (λ b. numbers_of (map held_call (cond b (c ∷ filter (λ d. is_held d.op) calls) (filter (λ d. is_held d.op) calls)))) (sym k)
 
@@ -199,18 +199,18 @@ stop_own low flags (c ∷ calls) config holder queue r h =
     with_own (Some a) k =
         (h c.call (inl refl), stop_below c.call (suc c.call) calls config holder (queue_after c.op queue) r.1 (omega arith), k)
 
-gone_below : (n low failures : ℕ) (calls : List CallEntry) → RisesFrom low (numbers_of calls) → n < low → is_told (gone_answers failures calls) n ≡ false
+gone_below : (n low failures : ℕ) (calls : List CallEntry) → RisesFrom low (numbers_of calls) → n < low → is_reported (gone_answers failures calls) n ≡ false
 gone_below n low failures [] r l = refl
 gone_below n low failures (c ∷ calls) r l =
     let first : low ≤ c.call = r.0 in
     rw (ne_eqb c.call n (λ e. omega arith)) (gone_below n (suc c.call) failures calls r.1 (omega arith))
 
 pub gone_keeps : (low failures : ℕ) (calls : List CallEntry) → RisesFrom low (numbers_of calls)
-    → filter (λ n. not (is_told (gone_answers failures calls) n)) (numbers_of calls) ≡ []
+    → filter (λ n. not (is_reported (gone_answers failures calls) n)) (numbers_of calls) ≡ []
 gone_keeps low failures [] r = refl
 gone_keeps low failures (c ∷ calls) r =
     rw (eq-eqb c.call c.call refl)
-    (past_told c.call (answer.Gone failures) (gone_answers failures calls) (numbers_of calls) r.1 ∙ gone_keeps (suc c.call) failures calls r.1)
+    (past_reported c.call (answer.Gone failures) (gone_answers failures calls) (numbers_of calls) r.1 ∙ gone_keeps (suc c.call) failures calls r.1)
 
 pub gone_own : (low failures : ℕ) (flags : List Bool) (calls : List CallEntry) → RisesFrom low (numbers_of calls) → AreOpen flags calls
     → AreOwn flags (gone_answers failures calls)

@@ -17,15 +17,15 @@ use Rattle.promise_defs.specs.Isolation.{writes_code}
 use Rattle.machine_defs.proofs.MachineCases.{is_code_at}
 use Rattle.machine_defs.specs.Pages.{may_write, is_lent, object_words, with_words, padded_words, loaded_memory}
 use Rattle.nook_data.specs.Layout.{object_start, buffer_start}
-use Rattle.machine_defs.specs.Turn.{Machine}
+use Rattle.machine_defs.specs.Execution.{Machine}
 use Rattle.machine_defs.proofs.BurstKeeps.{split}
 use Rattle.part_laws.proofs.BurstIsolation.{changes_only_allowed, burst_keeps_length}
 use Rattle.part_laws.proofs.Words.{same_range, length-with_words, with_words_below, with_words_above, with_words_there, take-set}
 use Rattle.machine_defs.proofs.Padded.{length-padded_words}
 
--- Which changes of memory keep the kernel's objects.
+-- Which changes of memory keep the kernel objects.
 
--- memory keeps its length, and every word of the objects
+-- memory keeps its length and all words of the objects
 pub record SameObjects (before after : List ℕ) : Type 0 where
   pub lengths : length after ≡ length before
   pub words : (i : ℕ) → 7360 ≤ i → slice_index after i ≡ slice_index before i
@@ -58,7 +58,7 @@ lent_keeps context (Some l) memory h c f =
     let n : length (padded_words 128 l.words) ≡ 128 = length-padded_words 128 l.words f in
     words_put (buffer_start context) (padded_words 128 l.words) memory h (omega arith)
 
--- what an operation that passed the static check is like
+-- properties of an operation that passed the static check
 
 no_answer : {X : Type 0} {x : X} {G : Type 0} → Some x ≡ None → G
 no_answer h = cc
@@ -98,7 +98,7 @@ set_key c blocks key value h =
     (λ e. let low : key ≤ 3 = leb-true key 3 e in omega arith)
     (λ e. no_answer (rw e at k))
 
--- an image put in place
+-- an image that is loaded
 
 pub load_keeps : (image : Image) (memory : List ℕ) → length memory ≡ 8192 → length image.text ≤ 2048 → length image.initial ≤ 2048
     → SameObjects memory (loaded_memory image memory)
@@ -184,10 +184,10 @@ kernel_word_elsewhere object word value memory one w =
     (length-set memory (object_start 0 + word) value)
     (λ i low high. get_or-set_other memory (object_start 0 + word) i value 0 (omega arith))
 
-pub set_told : (config : List ℕ) (key value : ℕ) (rest : List ℕ) → length config ≡ 4 → key < 4
+pub set_reported : (config : List ℕ) (key value : ℕ) (rest : List ℕ) → length config ≡ 4 → key < 4
     → slice_set (config ++ rest) key value ≡ slice_set config key value ++ rest
-set_told config key value rest n k = set-append_left config rest key value (omega arith)
+set_reported config key value rest n k = set-append_left config rest key value (omega arith)
 
-pub failures_told : (config : List ℕ) (failures more : ℕ) (rest : List ℕ) → length config ≡ 4
+pub failures_reported : (config : List ℕ) (failures more : ℕ) (rest : List ℕ) → length config ≡ 4
     → slice_set (config ++ (failures ∷ rest)) 4 more ≡ config ++ (more ∷ rest)
-failures_told config failures more rest n = set_at config failures rest more 4 n
+failures_reported config failures more rest n = set_at config failures rest more 4 n

@@ -6,10 +6,10 @@ use Rattle.nook_data.specs.declared.classes.Class.TheVariants.{Block, Net, Sound
 use Rattle.nook_data.specs.declared.calls.Op.{Op}
 use Rattle.nook_data.specs.declared.calls.Op.TheVariants.{Read, Write, Send, Recv, Open, Play, Close, Get, Set}
 use Rattle.nook_data.specs.Classes.{check_op, is_of_class, is_of_stream, is_play, same_class, sends, static_check}
-use Rattle.part_laws.proofs.Places.{split}
+use Rattle.part_laws.proofs.Indices.{split}
 
--- An open call passed the static check, so it is of the part's class: a frame is sent only by a link, and a sample
--- played only by a stream.
+-- An open call passed the static check, so it fits the part's class: only a link sends a frame, and only a stream plays
+-- a sample.
 
 pub of_class : (class : Class) (size : ℕ) (o : Op) → static_check class size o ≡ None → is_of_class class o ≡ true
 of_class class size o h = split (is_of_class class o)

@@ -10,22 +10,22 @@ use Rattle.part_defs.proofs.PartCases.{change_entry, is_of_thread, stop_calls}
 use Rattle.part_laws.specs.Facts.{At}
 use Rattle.part_laws.specs.Moves.{stop_core}
 use Rattle.part_laws.specs.Views.{Core, Call, core_of, entry_of, keep_waiting, open_from, as_opened}
-use Rattle.part_laws.proofs.Places.{split, some_same}
+use Rattle.part_laws.proofs.Indices.{split, some_same}
 
--- The part's open calls are those of all calls that are open, each with its place as its number.
+-- The part's open calls are the open ones of all calls, numbered by their positions.
 
 -- the open call that a search found
 pub record Found (n : ℕ) (cs : List Core) (thread : ℕ) (e : CallEntry) : Type 0 where
-  pub place : ℕ
+  pub index : ℕ
   pub core : Core
-  pub at : At cs place core
+  pub at : At cs index core
   pub waits : core.waits ≡ true
   pub mine : core.thread ≡ thread
-  pub entry : e ≡ entry_of (n + place) core
+  pub entry : e ≡ entry_of (n + index) core
 
 further : (n : ℕ) (c : Core) (cs : List Core) (t : ℕ) (e : CallEntry) → Found (suc n) cs t e → Found n (c ∷ cs) t e
 further n c cs t e f = record {
-  place = suc f.place;
+  index = suc f.index;
   core = f.core;
   at = f.at;
   waits = f.waits;
@@ -43,7 +43,7 @@ open_find n (c ∷ cs) t e h = by_waits c.waits refl h (open_find (suc n) cs t e
     by_waits false w i later = further n c cs t e (later i)
     by_waits true w i later = split (eqb c.thread t)
         (λ m. record {
-          place = 0;
+          index = 0;
           core = c;
           at = refl;
           waits = w;
@@ -103,7 +103,7 @@ drop_filter : (test : CallEntry → Bool) (w : Bool) (e : CallEntry) (es : List 
 drop_filter test true e es h = cond-false (test e) (e ∷ filter test es) (filter test es) h
 drop_filter test false e es h = refl
 
--- calls behind a number do not have it
+-- calls after a number do not have it
 past_map : (f : CallEntry → CallEntry) (m n : ℕ) (cs : List Core) → m < n → map (change_entry m f) (open_from n cs) ≡ open_from n cs
 past_map f m n [] h = refl
 past_map f m n (c ∷ cs) h =
@@ -119,7 +119,7 @@ past_filter m n (c ∷ cs) h =
     (ap not (ne_eqb n m (λ e. omega (arith, h, e))))
     ∙ ap (keep_waiting c.waits (entry_of n c)) (past_filter m (suc n) cs (omega (arith, h)))
 
--- an open call is changed at its place
+-- an open call is changed at its index
 pub open_change : (f : CallEntry → CallEntry) (g : Core → Core) → ((m : ℕ) (c : Core) → f (entry_of m c) ≡ entry_of m (g c))
     → (n : ℕ) (cs : List Core) (k : ℕ) (c : Core) → At cs k c → (g c).waits ≡ c.waits
     → map (change_entry (n + k) f) (open_from n cs) ≡ open_from n (set cs k (g c))
@@ -137,7 +137,7 @@ open_change f g e n (d ∷ cs) (suc k) c h w =
     (cond-false (eqb n (n + suc k)) (f (entry_of n d)) (entry_of n d) (ne_eqb n (n + suc k) (λ e. omega (arith, e))))
     (ap (λ m. map (change_entry m f) (open_from (suc n) cs)) (omega arith) ∙ open_change f g e (suc n) cs k c h w)
 
--- an open call is closed at its place
+-- an open call is closed at its index
 pub open_close : (n : ℕ) (cs : List Core) (k : ℕ) (c d : Core) → At cs k c → d.waits ≡ false
     → filter (λ c. not (is_call (n + k) c)) (open_from n cs) ≡ open_from n (set cs k d)
 open_close n [] k c d h w = absurd cc
@@ -184,7 +184,7 @@ open_stop n (c ∷ cs) = by_waits c.waits (is_held c.op) refl (open_stop (suc n)
         (filter (λ c. is_held c.op) (open_from (suc n) cs)) k)
         ∙ e
 
--- a call that is not blocked has no conflict with an open one before it
+-- a call that is not blocked does not conflict with an earlier open call
 pub open_apart : (class : Class) (e : CallEntry) (n : ℕ) (cs : List Core) → list_any (blocks_call class e) (open_from n cs) ≡ false
     → (k : ℕ) (c : Core) → At cs k c → c.waits ≡ true → nat_lt (n + k) e.call ≡ true → conflicts class e.op c.op ≡ false
 open_apart class e n [] h k c i w l = absurd cc

@@ -1,4 +1,4 @@
--- Every run is orderly, by what each step of a part does to its open calls.
+-- Every run is orderly, which follows from what each step of a part does to its open calls.
 use Rattle.std.proofs.Common.{◌≡◌, ◌⊎◌, inl, inr, ℕ, ◌+◌, ◌&&◌, not, Bool, true, false, Option, Some, None, Result, Ok, Err, List, [], ◌∷◌, ◌++◌, length, filter, sym, refl, ap, ◌∙◌, subst, arith}
 use Rattle.std.specs.Prelude.{◌==◌}
 use Rattle.nook_data.specs.declared.classes.Accept.{Accept}
@@ -35,9 +35,9 @@ use Rattle.part_defs.specs.State.{CallLog, PartState}
 use Rattle.part_defs.specs.Steps.{after_arrival, burst_stepped, can_burst, enabled, is_inside, is_ready, is_running}
 use Rattle.part_defs.specs.Steps.{opening, served_number, stepped}
 use Rattle.machine_defs.specs.BurstFaults.{faults_of_burst}
-use Rattle.part_laws.proofs.Places.{split}
+use Rattle.part_laws.proofs.Indices.{split}
 use Rattle.nook_data.specs.Answers.{one_answer}
-use Rattle.part_laws.specs.Orderly.{AreOwn, IsCrossing, IsFitting, IsOfCall, IsOrderlyFrom, flags_after, is_open, is_told, kept_from}
+use Rattle.part_laws.specs.Orderly.{AreOwn, IsCrossing, IsFitting, IsOfCall, IsOrderlyFrom, flags_after, is_open, is_reported, kept_from}
 use Rattle.part_laws.proofs.Numbers.{AreOpen, Has, RisesFrom, found_has, gone_keeps, gone_own, has_open, length_kept, length_push, numbers_answered, numbers_entered, numbers_of, numbers_push, opened, opened_kept, opened_push, opened_rises, opened_shut, stop_keeps, stop_own}
 use Rattle.part_laws.proofs.Picked.{kept_new, kept_none}
 
@@ -46,7 +46,7 @@ record Flagged (flags : List Bool) (log : CallLog) : Type 0 where
   pub numbers : numbers_of log.pending ≡ opened 1 flags
   pub count : log.count ≡ length flags
 
--- a step's event fits, and the flags follow
+-- a step's event fits, and the flags follow it
 record Follows (flags : List Bool) (log : CallLog) (e : Event) : Type 0 where
   pub fits : IsFitting flags e
   pub flagged : Flagged (flags_after flags e) log
@@ -125,7 +125,7 @@ admit_follows : (flags : List Bool) (p : PartState) (c : CallEntry) (a : Admit) 
 unfolding after_answering after_entering
 admit_follows flags p c (admits.Reply a) f h = record { fits = h; flagged = flagged_answered flags c.call a p.log (after_answering c.call p.log) f refl refl }
 admit_follows flags p c admits.TakeFrame f h = record { fits = h; flagged = flagged_answered flags c.call _ p.log (after_answering c.call p.log) f refl refl }
-admit_follows flags p c (admits.Enter place) f h = record {
+admit_follows flags p c (admits.Enter index) f h = record {
   fits = h;
   flagged = flagged_same flags p.log (after_entering c.call p.log) f (numbers_entered c.call p.log.pending) refl;
 }
@@ -147,13 +147,13 @@ pub record ClosesCall (context : ℕ) (p : PartState) (x : Crossed) : Type 0 whe
   pub a : Answer
   pub other : (context == 16) ≡ false
   pub found : call_of_thread context p.log.pending ≡ Some c
-  pub told : x.answer ≡ Some a
+  pub reported : x.answer ≡ Some a
   pub closed : x.state.log.pending ≡ filter (λ d. not (is_call c.call d)) p.log.pending
   pub count : x.state.log.count ≡ p.log.count
 
 -- or nothing
 pub record ClosesNone (p : PartState) (x : Crossed) : Type 0 where
-  pub told : x.answer ≡ None
+  pub reported : x.answer ≡ None
   pub pending : x.state.log.pending ≡ p.log.pending
   pub count : x.state.log.count ≡ p.log.count
 
@@ -162,7 +162,7 @@ Crosses context p x = IsCrossing x.end x.answer x.failure × (ClosesNone p x ⊎
 
 none_closed : (p : PartState) (x : Crossed) → x.answer ≡ None → x.state.log.pending ≡ p.log.pending → x.state.log.count ≡ p.log.count
     → ClosesNone p x
-none_closed p x t n c = record { told = t; pending = n; count = c }
+none_closed p x t n c = record { reported = t; pending = n; count = c }
 
 serve_crosses : (number context : ℕ) (p : PartState) (r : Result Service BadParam) → Crosses context p (serve_by number context p r)
 unfolding fails
@@ -176,30 +176,30 @@ reply_crosses status context p None e h = (tt, inl (none_closed p (call_replied 
 reply_crosses status context p (Some c) e h = by_accept (accept c.op status)
   where
     by_accept : (a : Accept) → Crosses context p (reply_by c status p a)
-    by_accept accepts.Take = (tt, inr (record { c = c; a = _; other = e; found = h; told = refl; closed = refl; count = refl }))
-    by_accept (accepts.IoError block) = (tt, inr (record { c = c; a = _; other = e; found = h; told = refl; closed = refl; count = refl }))
+    by_accept accepts.Take = (tt, inr (record { c = c; a = _; other = e; found = h; reported = refl; closed = refl; count = refl }))
+    by_accept (accepts.IoError block) = (tt, inr (record { c = c; a = _; other = e; found = h; reported = refl; closed = refl; count = refl }))
     by_accept (accepts.Fail cause) = (tt, inl (none_closed p (reply_by c status p (accepts.Fail cause)) refl refl refl))
 
 shadow_crosses : (status context : ℕ) (p : PartState) → Crosses context p (shadow_replied status p)
 unfolding fails next_stage
 shadow_crosses status context p = split (is_accepted status p)
-    (λ e. rw e (tt, inl (record { told = refl; pending = refl; count = refl })))
-    (λ e. rw e (tt, inl (record { told = refl; pending = refl; count = refl })))
+    (λ e. rw e (tt, inl (record { reported = refl; pending = refl; count = refl })))
+    (λ e. rw e (tt, inl (record { reported = refl; pending = refl; count = refl })))
 
 pub crossing_crosses : (context : ℕ) (e : BurstEnd) (p : PartState) → Crosses context p (after_crossing context e p)
 unfolding after_crossing fails
-crossing_crosses context (ends.Trap cause) p = (tt, inl (record { told = refl; pending = refl; count = refl }))
+crossing_crosses context (ends.Trap cause) p = (tt, inl (record { reported = refl; pending = refl; count = refl }))
 crossing_crosses context (ends.Kcall number) p = split (is_last context p)
-    (λ e. rw e (tt, inl (record { told = refl; pending = refl; count = refl })))
+    (λ e. rw e (tt, inl (record { reported = refl; pending = refl; count = refl })))
     (λ e. rw e (serve_crosses number context p _))
 crossing_crosses context ends.Pause p = split (is_last context p)
-    (λ e. rw e (tt, inl (record { told = refl; pending = refl; count = refl })))
-    (λ e. rw e (tt, inl (record { told = refl; pending = refl; count = refl })))
+    (λ e. rw e (tt, inl (record { reported = refl; pending = refl; count = refl })))
+    (λ e. rw e (tt, inl (record { reported = refl; pending = refl; count = refl })))
 crossing_crosses context (ends.Reply status) p = split (context == 16)
     (λ e. rw e (shadow_crosses status context p))
     (λ e. rw e (reply_crosses status context p (call_of_thread context p.log.pending) e refl))
 
--- a burst that may be done is of the shadow's own call or of an open one
+-- a burst that may be done belongs to the shadow's own call or to an open one
 burst_of_call : (flags : List Bool) (p : PartState) (context : ℕ) → Flagged flags p.log → can_burst p context ≡ true
     → IsOfCall (served_number context p) flags
 burst_of_call flags p context f h = split (context == 16)
@@ -221,11 +221,11 @@ answers_follow : (flags : List Bool) (context : ℕ) (p : PartState) (x : Crosse
     × Flagged (kept_from 1 (one_answer (served_number context p) x.answer) flags) x.state.log
 answers_follow flags context p x f (inl k) =
     subst (λ a. AreOwn flags (one_answer (served_number context p) a)
-    × Flagged (kept_from 1 (one_answer (served_number context p) a) flags) x.state.log) (sym k.told)
+    × Flagged (kept_from 1 (one_answer (served_number context p) a) flags) x.state.log) (sym k.reported)
     (tt, flagged_same flags p.log x.state.log f (ap numbers_of k.pending) k.count)
 answers_follow flags context p x f (inr k) =
     subst (λ a. AreOwn flags (one_answer (served_number context p) a)
-    × Flagged (kept_from 1 (one_answer (served_number context p) a) flags) x.state.log) (sym k.told)
+    × Flagged (kept_from 1 (one_answer (served_number context p) a) flags) x.state.log) (sym k.reported)
     (subst (λ n. AreOwn flags ((n, k.a) ∷ []) × Flagged (kept_from 1 ((n, k.a) ∷ []) flags) x.state.log)
     (sym (served_is context p k.c k.other k.found))
     ((open_found flags p.log context k.c f k.found, refl, tt), flagged_answered flags k.c.call k.a p.log x.state.log f k.closed k.count))
@@ -236,8 +236,8 @@ burst_follows : (flags : List Bool) (context : ℕ) (p : PartState) (b : DomainB
 burst_follows flags context p b f h =
     let x : Crossed = after_crossing context b.ending (with_burst b.domain p) in
     let crosses : Crosses context (with_burst b.domain p) x = crossing_crosses context b.ending (with_burst b.domain p) in
-    let told = answers_follow flags context (with_burst b.domain p) x f crosses.1 in
-    record { fits = (burst_of_call flags p context f h, told.0, crosses.0); flagged = told.1 }
+    let reported = answers_follow flags context (with_burst b.domain p) x f crosses.1 in
+    record { fits = (burst_of_call flags p context f h, reported.0, crosses.0); flagged = reported.1 }
 
 -- ---- stages
 
@@ -252,7 +252,7 @@ stop_follows flags p f =
       fits = (tt, stop_own 1 flags p.log.pending p.log.config p.log.holder p.queue (log_rises flags p.log f) (open_calls flags p.log f));
       flagged = record {
         numbers = sym (stop_keeps 1 p.log.pending p.log.config p.log.holder p.queue (log_rises flags p.log f))
-            ∙ ap (filter (λ n. not (is_told answers n))) f.numbers ∙ sym (opened_kept answers 1 flags);
+            ∙ ap (filter (λ n. not (is_reported answers n))) f.numbers ∙ sym (opened_kept answers 1 flags);
         count = f.count ∙ sym (length_kept answers 1 flags);
       };
     }
@@ -265,7 +265,7 @@ give_up_follows flags p f =
       fits = (tt, gone_own 1 p.failures flags p.log.pending (log_rises flags p.log f) (open_calls flags p.log f));
       flagged = record {
         numbers = sym (gone_keeps 1 p.failures p.log.pending (log_rises flags p.log f))
-            ∙ ap (filter (λ n. not (is_told answers n))) f.numbers ∙ sym (opened_kept answers 1 flags);
+            ∙ ap (filter (λ n. not (is_reported answers n))) f.numbers ∙ sym (opened_kept answers 1 flags);
         count = f.count ∙ sym (length_kept answers 1 flags);
       };
     }

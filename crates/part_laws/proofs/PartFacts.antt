@@ -1,4 +1,4 @@
--- What code that takes a part's steps needs to know of open calls, contexts and counts, from `IsFit` and `IsTied`.
+-- What code that takes a part's steps must know of open calls, contexts and counts, by `IsFit` and `IsTied`.
 use Rattle.std.proofs.Common.{◌≡◌, ℕ, ◌+◌, ◌-◌, ◌/◌, ◌^◌, ◌<◌, ◌≤◌, ◌==◌, ◌&&◌, nat_le, IfSome, is_some, Bool, true, false, Option, Some, None, List, [], ◌∷◌, length, refl, sym, ap, arith, subst, true≢false, eqb-true}
 use Rattle.std.specs.List.{find, AllByRecursion}
 use Rattle.std.proofs.lemmas.Bool.{and_parts, leb-true, eq-eqb, ne_eqb}
@@ -40,7 +40,7 @@ checked_op_of_class c blocks o h = split (is_of_class c o)
     (λ e. e)
     (λ e. no_answer (rw e at h))
 
--- it is checked by its class's table
+-- its class's table checked it
 pub checked_op_of_table : (c : Class) (blocks : ℕ) (o : Op) → static_check c blocks o ≡ None → check_op c blocks o ≡ None
 checked_op_of_table c blocks o h = split (is_of_class c o)
     (λ e. rw e at h)
@@ -51,7 +51,7 @@ in_range blocks first count h = split (nat_le (first + count) blocks)
     (λ e. leb-true (first + count) blocks e)
     (λ e. no_answer (rw e at h))
 
--- the blocks of an operation lie on the disk
+-- the blocks of an operation are on the disk
 pub checked_op_on_disk : (c : Class) (blocks : ℕ) (o : Op) → static_check c blocks o ≡ None → first_of_op o + blocks_of_op o ≤ blocks
 checked_op_on_disk c blocks (op.Read first count) h =
     let k : check_op c blocks (op.Read first count) ≡ None = checked_op_of_table c blocks (op.Read first count) h in
@@ -71,7 +71,7 @@ checked_op_on_disk c blocks op.Close h = omega arith
 checked_op_on_disk c blocks (op.Get key) h = omega arith
 checked_op_on_disk c blocks (op.Set key value) h = omega arith
 
--- a Read is of at most eight blocks
+-- a Read has at most eight blocks
 pub checked_read_count : (c : Class) (blocks first count : ℕ) → static_check c blocks (op.Read first count) ≡ None → count ≤ 8
 checked_read_count c blocks first count h =
     let k : check_op c blocks (op.Read first count) ≡ None = checked_op_of_table c blocks (op.Read first count) h in
@@ -132,7 +132,7 @@ module _ (p : PartState) (fit : IsFit p) (thread : ℕ) (c : CallEntry) (found :
 pub open_call_thread : (thread : ℕ) (pending : List CallEntry) (c : CallEntry) → call_of_thread thread pending ≡ Some c → c.thread ≡ thread
 open_call_thread thread pending c found = found_thread thread pending c found
 
--- numbers rise, so a call is found by its number too
+-- numbers increase, so a number finds a call too
 
 call_above : (thread low count : ℕ) (pending : List CallEntry) (c : CallEntry) → IsRising low count pending
     → call_of_thread thread pending ≡ Some c → open_call c.call pending ≡ Some c
@@ -191,7 +191,7 @@ module _ (p : PartState) (tied : IsTied p) where
       let l : p.failures ≤ p.spec.limit + 1 = tied.limit in
       omega arith
 
--- a call found by its number passed the static check too
+-- a call found by its number also passed the static check
 pub numbered_call_fits : (p : PartState) (call : ℕ) (c : CallEntry) → IsFit p → open_call call p.log.pending ≡ Some c
     → IsFitCall p.spec.class p.spec.blocks c
 numbered_call_fits p call c fit found = found_fits (IsFitCall p.spec.class p.spec.blocks) (is_call call) p.log.pending c fit.log.calls found
@@ -207,7 +207,7 @@ memory_length p fit = fit.domain.memory
 pub contexts_length : (p : PartState) → IsFit p → length p.domain.contexts ≡ 17
 contexts_length p fit = fit.domain.contexts
 
--- the stage that is due replays one of four keys
+-- the next stage replays one of four keys
 pub due_key_low : (p : PartState) (key value : ℕ) → IsTied p → stage_due p.mode ≡ Some (stage.ReplaySet key value) → key ≤ 3
 due_key_low p key value tied due = by_mode p.mode tied.stages due
   where
@@ -221,7 +221,7 @@ due_key_low p key value tied due = by_mode p.mode tied.stages due
     by_mode (mode.Dead true) f e = absurd cc
     by_mode (mode.Dead false) f e = absurd cc
 
--- the context of a burst that may be taken: it is Inside, and has done at most 31 bursts
+-- the context of a burst that may be done: it is Inside, and has done at most 31 bursts
 
 abbrev pub GoesOnWith : Option Context → Type 0
 GoesOnWith o = (x : Context) × (o ≡ Some x) × (x.bursts ≤ 31)

@@ -1,4 +1,4 @@
--- The open calls are those of all calls whose flags say so, each with its place as its number.
+-- The open calls are those of all calls whose flags say so, numbered by their positions.
 use Rattle.std.proofs.Common.{◌≡◌, ℕ, zero, suc, ◌+◌, ◌<◌, ◌||◌, ◌&&◌, not, Bool, true, false, cond, Option, Some, None, List, [], ◌∷◌, ◌++◌, map, length, filter, find, slice_get, sym, refl, ap, ap₂, ◌∙◌, subst, arith, option_map}
 use Rattle.std.specs.Prelude.{◌==◌, if◌then◌else◌}
 use Rattle.std.specs.List.{list_any}
@@ -6,14 +6,14 @@ use Rattle.std.proofs.lemmas.Bool.{eqb-true, eq-eqb, ne_eqb}
 use Rattle.nook_data.specs.declared.calls.Answer.{Answer}
 use Rattle.nook_data.specs.declared.calls.Op.{Op}
 use Rattle.part_laws.specs.Watch.{Watched, leaves, watched}
-use Rattle.nook_data.specs.Places.{at_number, change_number, number_where, one_later}
-use Rattle.part_laws.proofs.Places.{change_found, split}
+use Rattle.nook_data.specs.Numbered.{at_number, change_number, number_where, one_later}
+use Rattle.part_laws.proofs.Indices.{change_found, split}
 use Rattle.promise_defs.specs.Contract.{OpenCall, call_of, change_call, change_first, is_answered_in, leave_call}
-use Rattle.part_laws.specs.Orderly.{is_open, is_told, kept_from}
+use Rattle.part_laws.specs.Orderly.{is_open, is_reported, kept_from}
 
--- ---- lists of every call, searched by numbers
+-- ---- lists of all calls, searched by number
 
--- the item with a number, where the first has the number `first`
+-- the item with a number; the first has the number `first`
 abbrev pub find_at : {X : Type 0} → ℕ → ℕ → List X → Option X
 find_at number first [] = None
 find_at number first (x ∷ xs) = if first == number then Some x else find_at number (suc first) xs
@@ -114,7 +114,7 @@ abbrev pub opened_call : ℕ → Watched → OpenCall
 opened_call n w = record
     { number = n; op = w.op; inside = w.inside; sent = w.sent; played = w.played; handed = w.handed; failed = w.failed }
 
--- those with flags that say that they are open; the first has the number `first`
+-- the calls whose flags say that they are open; the first has the number `first`
 abbrev pub picked : ℕ → List Bool → List Watched → List OpenCall
 picked first [] ws = []
 picked first (o ∷ flags) [] = []
@@ -168,7 +168,7 @@ any_picked p q same out first (true ∷ flags) (w ∷ ws) s =
 any_picked p q same out first (false ∷ flags) (w ∷ ws) s =
     any_picked p q same out (suc first) flags ws s.1 ∙ ap (λ b. b || list_any q ws) (sym (out w (s.0 refl)))
 
--- what a question finds of the first that passes a test
+-- what a question finds out about the first call that passes a test
 pub find_picked : {R : Type 0} (p : OpenCall → Bool) (q : Watched → Bool) → ((n : ℕ) (w : Watched) → p (opened_call n w) ≡ q w)
     → ((w : Watched) → w.inside ≡ false → q w ≡ false)
     → (f : Option OpenCall → R) (g : Option Watched → R) → f None ≡ g None → ((n : ℕ) (w : Watched) → f (Some (opened_call n w)) ≡ g (Some w))
@@ -201,7 +201,7 @@ pub picked_kept : (answers : List (ℕ × Answer)) (first : ℕ) (flags : List B
     → filter (λ c. not (is_answered_in answers c)) (picked first flags ws) ≡ picked first (kept_from first answers flags) ws
 picked_kept answers first [] ws = refl
 picked_kept answers first (o ∷ flags) [] = refl
-picked_kept answers first (true ∷ flags) (w ∷ ws) = split (is_told answers first)
+picked_kept answers first (true ∷ flags) (w ∷ ws) = split (is_reported answers first)
     (λ e. rw e (picked_kept answers (suc first) flags ws))
     (λ e. rw e (ap (λ l. opened_call first w ∷ l) (picked_kept answers (suc first) flags ws)))
 picked_kept answers first (false ∷ flags) (w ∷ ws) = picked_kept answers (suc first) flags ws
@@ -300,7 +300,7 @@ shut_length [] (w ∷ ws) s = absurd s
 shut_length (o ∷ flags) [] s = absurd s
 shut_length (o ∷ flags) (w ∷ ws) s = ap suc (shut_length flags ws s.1)
 
--- what an answered call becomes is not seen
+-- a change of an answered call is not seen
 pub picked_answered : (f : Watched → Watched) (number first : ℕ) (a : Answer) (flags : List Bool) (ws : List Watched)
     → picked first (kept_from first ((number, a) ∷ []) flags) (change_at f number first ws)
     ≡ picked first (kept_from first ((number, a) ∷ []) flags) ws

@@ -9,7 +9,7 @@ use Rattle.part_laws.specs.Recovery.{Agrees, HasFacts, IsKeptRun, ShowsDevice}
 use Rattle.part_laws.proofs.Judged.{same_break, same_licence}
 use Rattle.part_laws.proofs.Recovered.{IsWatchedRun, agrees, has_facts, losses_licensed, sees_one_run}
 
--- The recovery theorem by the contract as it is read aloud: over runs the fold breaks first what the contract says.
+-- The recovery theorem by the contract as it is read: over runs the fold has the same first break as the contract.
 
 watched : (spec : PartSpec) (journal : List Event) → IsKeptRun spec journal → IsWatchedRun spec journal
 watched spec journal h = record

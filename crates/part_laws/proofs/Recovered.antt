@@ -38,11 +38,11 @@ use Rattle.part_laws.specs.Facts.{At, IsStored, IsSetting, KeyIn, Facts, is_dead
 use Rattle.part_laws.specs.Recovery.{Gone, StepKeeps, HasFacts, ShowsDevice, Agrees, has_write, has_set_inside, is_write_call, is_set_inside}
 use Rattle.part_laws.specs.Views.{View, Past, Core, cores, entry_of, keep_waiting, open_from, stage_of, view_of, watch_of, ideal_of, tracks_of}
 use Rattle.part_laws.proofs.Arrivals.{arrive_ok}
-use Rattle.part_laws.proofs.Balances.{balance_told}
+use Rattle.part_laws.proofs.Balances.{balance_reported}
 use Rattle.part_laws.proofs.Bursting.{burst_ok}
 use Rattle.part_laws.proofs.Enters.{enter_ok}
 use Rattle.part_laws.proofs.Invokes.{invoke_ok}
-use Rattle.part_laws.proofs.Places.{split, some_same}
+use Rattle.part_laws.proofs.Indices.{split, some_same}
 use Rattle.part_laws.proofs.Stages.{stage_ok, with_mode}
 
 -- Every step keeps the facts, and so does every run.
@@ -60,7 +60,7 @@ step_keeps p b step.Stage f l d e h = stage_ok p b f l
     (not-true (is_driven p) (and_parts (is_some (stage_due p.mode)) _ e).1) d (and_parts (is_some (stage_due p.mode)) _ e).0
 step_keeps p b (step.Arrive frame) f l d e h = inr (arrive_ok p b frame f l e)
 
--- ---- what was given up stays so
+-- ---- a part that was given up stays so
 
 gone_runs : (m : Mode) → is_dead m ≡ true → is_running m ≡ true → ⊥
 gone_runs (mode.Dead collected) d r = absurd cc
@@ -102,11 +102,11 @@ gone_stays p (step.Arrive frame) g e = gone_arrive p frame g
 
 -- ---- runs
 
-unbroken : (o : Option ℕ) (place : ℕ) (later : Option Break) → break_at o place later ≡ None → (o ≡ None) × (later ≡ None)
-unbroken None place later h = (refl, h)
-unbroken (Some clause) place later h = absurd cc
+unbroken : (o : Option ℕ) (number : ℕ) (later : Option Break) → break_at o number later ≡ None → (o ≡ None) × (later ≡ None)
+unbroken None number later h = (refl, h)
+unbroken (Some clause) number later h = absurd cc
 
--- a part that is given up drives nothing
+-- a part that was given up drives nothing
 undriven_dead : (m : Mode) → is_dead m ≡ true → (d : Bool) → (d ≡ true → is_driving (stage_of m) ≡ true) → d ≡ false
 undriven_dead (mode.Dead collected) t true f = absurd cc (f refl)
 undriven_dead m t false f = refl
@@ -124,7 +124,7 @@ pub record RunKeeps (p : PartState) (b : Past) (events : List Event) : Type 0 wh
   pub tracked : fold (λ ts e. tracks_after e ts) (tracks_of b) events ≡ tracks_of after
   pub counted : (n : Counts) → Balanced (view_of p) b n → Balanced (view_of (state_from p events)) after (fold count_event n events)
 
--- a run of what was given up ends so
+-- a run of a part that was given up ends so
 gone_run : (events : List Event) (p : PartState) → Gone p → IsRunFrom p events → is_dead (state_from p events).mode ≡ true
 unfolding IsRunFrom state_from
 gone_run [] p g r = g.0
@@ -155,20 +155,20 @@ joined p b e events k same r = record {
     watched : sees (watch_of (view_of p) b) e ≡ watch_of (view_of (stepped p (step_of e)).state) k.after
     watched = ap (sees (watch_of (view_of p) b)) (sym same) ∙ k.seen
 
-pub run_keeps : (events : List Event) (p : PartState) (b : Past) (place : ℕ) → Facts (view_of p) b → length p.domain.contexts ≡ 17 → is_dead p.mode ≡ false
-    → IsRunFrom p events → break_from place (watch_of (view_of p) b) events ≡ None → is_dead (state_from p events).mode ≡ false → RunKeeps p b events
+pub run_keeps : (events : List Event) (p : PartState) (b : Past) (number : ℕ) → Facts (view_of p) b → length p.domain.contexts ≡ 17 → is_dead p.mode ≡ false
+    → IsRunFrom p events → break_from number (watch_of (view_of p) b) events ≡ None → is_dead (state_from p events).mode ≡ false → RunKeeps p b events
 unfolding IsRunFrom state_from break_from ran trace_from licensed_from
-run_keeps [] p b place f l d r h n = record { after = b; facts = f; shown = refl; licensed = refl; seen = refl; tracked = refl; counted = λ m x. x }
-run_keeps (e ∷ events) p b place f l d r h n = by_step
+run_keeps [] p b number f l d r h n = record { after = b; facts = f; shown = refl; licensed = refl; seen = refl; tracked = refl; counted = λ m x. x }
+run_keeps (e ∷ events) p b number f l d r h n = by_step
     (step_keeps p b (step_of e) f l d r.0 (ap (λ x. (sees (watch_of (view_of p) b) x).clause) r.1 ∙ clauses.0))
-    (λ b' g k i w. run_keeps events (stepped p (step_of e)).state b' (suc place) g k i r.2 w n)
+    (λ b' g k i w. run_keeps events (stepped p (step_of e)).state b' (suc number) g k i r.2 w n)
   where
-    clauses : ((sees (watch_of (view_of p) b) e).clause ≡ None) × (break_from (suc place) (sees (watch_of (view_of p) b) e) events ≡ None)
-    clauses = unbroken (sees (watch_of (view_of p) b) e).clause place (break_from (suc place) (sees (watch_of (view_of p) b) e) events) h
+    clauses : ((sees (watch_of (view_of p) b) e).clause ≡ None) × (break_from (suc number) (sees (watch_of (view_of p) b) e) events ≡ None)
+    clauses = unbroken (sees (watch_of (view_of p) b) e).clause number (break_from (suc number) (sees (watch_of (view_of p) b) e) events) h
 
     by_step : Gone (stepped p (step_of e)).state ⊎ StepKeeps p b (stepped p (step_of e))
         → ((b' : Past) → Facts (view_of (stepped p (step_of e)).state) b' → length (stepped p (step_of e)).state.domain.contexts ≡ 17
-        → is_dead (stepped p (step_of e)).state.mode ≡ false → break_from (suc place) (watch_of (view_of (stepped p (step_of e)).state) b') events ≡ None
+        → is_dead (stepped p (step_of e)).state.mode ≡ false → break_from (suc number) (watch_of (view_of (stepped p (step_of e)).state) b') events ≡ None
         → RunKeeps (stepped p (step_of e)).state b' events)
         → RunKeeps p b (e ∷ events)
     by_step (inl g) go = absurd (true≢false (sym (gone_run events (state_after p (step_of e)) g r.2) ∙ n))
@@ -179,7 +179,7 @@ run_keeps (e ∷ events) p b place f l d r h n = by_step
               (is_driven (stepped p (step_of e)).state) k.facts.driving,
         ) r.2) ∙ n)))
         (λ t. joined p b e events k r.1 (go k.after k.facts k.contexts t
-        (subst (λ w. break_from (suc place) w events ≡ None) (ap (sees (watch_of (view_of p) b)) (sym r.1) ∙ k.seen) clauses.1)))
+        (subst (λ w. break_from (suc number) w events ≡ None) (ap (sees (watch_of (view_of p) b)) (sym r.1) ∙ k.seen) clauses.1)))
 
 -- ---- the opening part
 
@@ -243,7 +243,7 @@ opening_alive spec = refl
 
 -- ---- the recovery theorem
 
--- a run in which the fold breaks no clause, and which does not end given up
+-- a run in which the fold breaks no clause and which does not end given up
 pub record IsWatchedRun (spec : PartSpec) (journal : List Event) : Type 0 where
   pub run : IsRun spec journal
   pub contract : watched_break spec.class spec.blocks journal ≡ None
@@ -278,7 +278,7 @@ answers_licensed spec journal h =
 -- frames are in balance
 pub frames_balanced : (spec : PartSpec) (journal : List Event) → IsWatchedRun spec journal → is_balanced (counted_losses journal) ≡ true
 unfolding counted_losses
-frames_balanced spec journal h = balance_told _ _ _ (fold count_event no_counts journal)
+frames_balanced spec journal h = balance_reported _ _ _ (fold count_event no_counts journal)
     ((recovered spec journal h).counted no_counts
     (subst (λ v. Balanced v (opening_past spec) no_counts) (opening_seen spec)
     (record { arrived = refl; kept = refl; taken = refl; driver = refl; flow = refl })))
@@ -288,7 +288,7 @@ unfolding licensed
 losses_licensed spec journal h = and_from (licensed_from (opening spec) (first_watch spec.class spec.blocks) journal) (is_balanced (counted_losses journal))
     (answers_licensed spec journal h) (frames_balanced spec journal h)
 
--- ---- what is the device's
+-- ---- what the part shares with the device
 
 open_any : (test : CallEntry → Bool) (n : ℕ) (cs : List Core) (k : ℕ) (c : Core) → At cs k c → c.waits ≡ true
     → ((m : ℕ) → test (entry_of m c) ≡ true) → list_any test (open_from n cs) ≡ true
@@ -315,17 +315,17 @@ facts_agree p b f = record {
         → slice_index_or (view_of p).dev.medium n [] ≡ slice_index_or b.blocks n []
     by_block w n (inl e) = e
     by_block w n (inr s) = absurd (true≢false (sym (ap (list_any is_write_call) f.pending
-        ∙ open_any is_write_call 1 (cores b) s.place s.call s.at s.waits (λ m. s.writes)) ∙ w))
+        ∙ open_any is_write_call 1 (cores b) s.index s.call s.at s.waits (λ m. s.writes)) ∙ w))
 
     by_key : has_set_inside p ≡ false → (key : ℕ) → (slice_index p.domain.device.registers key ≡ slice_index p.log.config key)
         ⊎ IsSetting (cores b) key (slice_index p.domain.device.registers key)
         → slice_index p.domain.device.registers key ≡ slice_index p.log.config key
     by_key w key (inl e) = e
     by_key w key (inr s) = absurd (true≢false (sym (ap (list_any is_set_inside) f.pending
-        ∙ open_any is_set_inside 1 (cores b) s.place s.call s.at ((f.calls.each s.place s.call s.at).opened s.inside)
+        ∙ open_any is_set_inside 1 (cores b) s.index s.call s.at ((f.calls.each s.index s.call s.at).opened s.inside)
         (λ m. and_from s.call.inside (is_set s.call.op) s.inside (ap is_set s.sets))) ∙ w))
 
--- where the trace leads the never-failing device, the part agrees with it
+-- after the trace the part agrees with the never-failing device
 pub agrees : (spec : PartSpec) (journal : List Event) (device : Ideal) → IsWatchedRun spec journal → ShowsDevice spec journal device
     → Agrees (state_of spec journal) device
 agrees spec journal device h s = subst (λ d. Agrees (state_of spec journal) d)

@@ -23,7 +23,7 @@ use Rattle.part_laws.specs.Tied.{AreApart, IsTied}
 
 -- The bound of a run.
 
--- open calls are no more than the threads that invoked
+-- there are at most as many open calls as threads that invoked
 
 abbrev one_if : Bool → ℕ
 one_if true = 1
@@ -100,7 +100,7 @@ few_calls test pending a th all =
     let two : below 16 pending ≤ passing_below 16 test = below_passing 16 test pending a all in
     omega arith
 
--- what is kept over a run
+-- what a run keeps
 
 pub opening_tied : (spec : PartSpec) → IsTied (opening spec)
 unfolding opening opening_domain opening_log

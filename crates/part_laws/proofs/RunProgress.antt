@@ -26,7 +26,7 @@ use Rattle.part_laws.specs.Progress.{IsStill, HasProgress}
 use Rattle.part_laws.specs.Tied.{IsRising, IsTiedCall, IsTied}
 use Rattle.nook_data.proofs.Options.{none_is_some, same_inside}
 
--- Progress: where a call is open some step may be taken.
+-- Progress: if a call is open, some step may be taken.
 
 -- the next step may be taken
 
@@ -66,7 +66,7 @@ unfolding next_any IsOkNext
 next_enabled p s h =
     or_step_ok p (next_recovery p) (next_of_calls p p.log.pending) (next_recovery_ok p) (next_of_calls_ok p p.log.pending) s h
 
--- where there is none
+-- if there is none
 
 or_none : (a b : Option Step) → option_or a b ≡ None → (a ≡ None) × (b ≡ None)
 or_none None b h = (refl, h)

@@ -42,7 +42,7 @@ invoke_named p thread o (Some a) = refl
 admitted_named : (p : PartState) (c : CallEntry) (a : Admit) → step_of (after_admit p c a).event ≡ step.Enter c.thread
 admitted_named p c (admits.Reply a) = refl
 admitted_named p c admits.TakeFrame = refl
-admitted_named p c (admits.Enter place) = refl
+admitted_named p c (admits.Enter index) = refl
 
 enter_named : (p : PartState) (thread : ℕ) (o : Option CallEntry) → call_of_thread thread p.log.pending ≡ o
     → step_of (entered_by p thread o).event ≡ step.Enter thread
@@ -96,7 +96,7 @@ same_steps_same_run p a b ra rb e =
       ma.1 ∙ ap (state_made p) e ∙ sym mb.1,
     )
 
--- one step more
+-- one more step
 
 pub run_more : (p : PartState) (events : List Event) (s : Step) → IsRunFrom p events → enabled (state_from p events) s ≡ true
     → IsRunFrom p (events ++ event_of (state_from p events) s ∷ [])

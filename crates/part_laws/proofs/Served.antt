@@ -12,7 +12,7 @@ use Rattle.machine_defs.specs.Services.{needs, is_frame_length, tested_length, c
 use Rattle.machine_defs.specs.Services.{alloc_served, borrow_served, give_back_served}
 use Rattle.part_laws.proofs.Crossings.{taken_up}
 
--- Service 6 alone changes the kernel's queue.
+-- Only service 6 changes the kernel's queue.
 
 abbrev pub is_rx : Service → Bool
 is_rx (service.NetRx start len) = true
@@ -37,7 +37,7 @@ frame_rx first second c s h = test_of (not (same_class c class.Net)) _ _ s (is_r
     (λ u j. absurd cc)
     (λ u j. ap is_rx (needed (is_frame_length second) 6 2 (service.NetRx first second) s j)))
 
--- a service is that of its number
+-- the number determines the service
 pub checked_rx : (number first second : ℕ) (c : Class) (entries : List Entry) (s : Service) → checked number first second c entries ≡ Ok s
     → is_rx s ≡ eqb number 6
 checked_rx number first second c entries s h =
@@ -69,7 +69,7 @@ give_back_queue : (n : ℕ) (o : Option ℕ) (memory : List ℕ) (entries : List
 give_back_queue n None memory entries queue = refl
 give_back_queue n (Some start) memory entries queue = refl
 
--- the other services leave the queue
+-- the other services do not change the queue
 pub queue_stays : (heap : ℕ) (s : Service) (memory : List ℕ) (entries : List Entry) (queue : List (List ℕ)) → is_rx s ≡ false
     → (served heap s memory entries queue).queue ≡ queue
 unfolding served
@@ -82,7 +82,7 @@ queue_stays heap (service.NetRx start len) memory entries queue h = absurd cc
 queue_stays heap service.Log memory entries queue h = refl
 queue_stays heap service.Yield memory entries queue h = refl
 
--- service 6 puts the frame that it moved behind the queue where there is room
+-- service 6 appends the frame that it moved to the queue, if there is room
 pub queue_takes : (heap : ℕ) (s : Service) (memory : List ℕ) (entries : List Entry) (queue : List (List ℕ)) → is_rx s ≡ true
     → (served heap s memory entries queue).queue ≡ taken_up (served heap s memory entries queue).moved queue
 unfolding served
@@ -95,7 +95,7 @@ queue_takes heap (service.GiveBack object) memory entries queue h = absurd cc
 queue_takes heap service.Log memory entries queue h = absurd cc
 queue_takes heap service.Yield memory entries queue h = absurd cc
 
--- its result tells whether there was room
+-- its result says whether there was room
 pub takes_answer : (heap : ℕ) (s : Service) (memory : List ℕ) (entries : List Entry) (queue : List (List ℕ)) → is_rx s ≡ true
     → (served heap s memory entries queue).answer ≡ cond (nat_lt (length queue) 64) 1 0
 unfolding served

@@ -23,7 +23,7 @@ use Rattle.part_laws.specs.Fit.{IsFitEntry, IsOrdered}
 
 -- What each service keeps.
 
--- what a check that passed says of the call's number and first argument
+-- what a passed check says of the call's number and first argument
 abbrev pub Says : ℕ → ℕ → Result Service BadParam → Type 0
 Says number first (Ok (service.GiveBack object)) = (number ≡ 5) × (first ≡ object)
 Says number first (Ok (service.Borrow object)) = (1 ≤ object) × (object ≤ 12)
@@ -65,7 +65,7 @@ checked_says number first second c entries = split (number == 1)
     object_range : (nat_le 1 first ≡ true) × (nat_le first 12 ≡ true) → (1 ≤ first) × (first ≤ 12)
     object_range h = (leb-true 1 first h.0, leb-true first 12 h.1)
 
--- what a service leaves: memory of its length, entries that fit, and an object 1 to 12 as it was, or given back
+-- after a service memory has its length, entries fit, and an object 1 to 12 is unchanged or given back
 pub record ServedKept (heap number first : ℕ) (was : List ℕ) (held : List Entry) (s : Served) : Type 0 where
   pub memory : length s.memory ≡ 8192
   pub entries : AllByRecursion (IsFitEntry heap) s.entries

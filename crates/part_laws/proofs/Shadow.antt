@@ -18,7 +18,7 @@ use Rattle.part_laws.proofs.Balances.{TakesFrame}
 use Rattle.part_laws.proofs.Closing.{Comes, frame_comes}
 use Rattle.part_laws.proofs.Subs.{Taken, sub_front}
 
--- Every answer of the shadow's table is one of the never-failing device, and is licensed.
+-- The never-failing device may give every answer of the shadow's table, and each is licensed.
 
 pub same_stage_refl : (s : Stage) → same_stage s s ≡ true
 same_stage_refl stage.Stop = refl
@@ -30,7 +30,7 @@ same_stage_refl (stage.ReplaySet k v) = and_from (eqb k k) (eqb v v) (eq-eqb k k
 same_stage_refl stage.ReplayOpen = refl
 same_stage_refl stage.Resume = refl
 
--- what an answer of the shadow is
+-- what holds of an answer of the shadow
 pub record Says (m : Ideal) (thread : ℕ) (o : Op) (s : Stage) (queue tail : List (List ℕ)) (a : Answer) : Type 0 where
   pub kept : is_held o ≡ false
   pub frames : List (List ℕ)
@@ -40,7 +40,7 @@ pub record Says (m : Ideal) (thread : ℕ) (o : Op) (s : Stage) (queue tail : Li
   pub allowed : (q : List (List ℕ)) (w : Watch) (n : ℕ) → allows (Some s) q w n a ≡ true
   pub counted : TakesFrame a queue (queue_after o queue)
 
--- what the shadow does with an operation: it holds it, or answers it
+-- what the shadow does with an operation: it holds or answers it
 abbrev pub ShadowSays : Ideal → ℕ → Op → Stage → List (List ℕ) → List (List ℕ) → Option Answer → Type 0
 ShadowSays m thread o s queue tail None = (is_held o ≡ true) × (queue_after o queue ≡ queue)
 ShadowSays m thread o s queue tail (Some a) = Says m thread o s queue tail a

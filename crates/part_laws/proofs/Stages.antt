@@ -22,14 +22,14 @@ use Rattle.part_defs.specs.Stages.{replays_open, resumes, stage_due, stage_stepp
 use Rattle.part_defs.specs.State.{PartState}
 use Rattle.part_defs.specs.Steps.{is_driven}
 use Rattle.part_laws.specs.Counts.{Counts, count_stage}
-use Rattle.part_laws.specs.Balance.{tally, held_at, Balance, Balanced}
+use Rattle.part_laws.specs.Balance.{frame_counts, held_at, Balance, Balanced}
 use Rattle.part_laws.specs.ActsOn.{Dev, dev_of, is_link}
 use Rattle.part_laws.specs.Recovery.{Gone, StepKeeps}
 use Rattle.part_laws.specs.Facts.{At, KeyAt, KeyIn, ReplayFits, BootFits, may_be_inside, is_driving, is_dead, Facts}
 use Rattle.part_laws.specs.Views.{View, Past, Core, core_of, cores, stage_of, replay_of, view_of, watch_of, ideal_of}
 use Rattle.part_laws.proofs.Balances.{reset_balance}
 use Rattle.part_laws.proofs.Contexts.{shadow_set}
-use Rattle.part_laws.proofs.Places.{split, get_map}
+use Rattle.part_laws.proofs.Indices.{split, get_map}
 use Rattle.part_laws.proofs.Stops.{stop_ok}
 use Rattle.part_laws.proofs.Subs.{sub_without_end, sub_without_mid}
 
@@ -43,7 +43,7 @@ with_mode m p = record p { mode = m }
 abbrev pub moded : Mode → Bool → View → View
 moded m d v = record v { mode = m; driven = d }
 
--- nobody is Inside, and the mode changes
+-- no call is Inside, and the mode changes
 pub restage : (v : View) (b : Past) (m : Mode) (d : Bool) → Facts v b → may_be_inside v.mode ≡ false
     → ((key : ℕ) → KeyIn (cores b) v.config v.defaults d m key (slice_index v.dev.registers key))
     → ReplayFits v.config (stage_of m) → BootFits v.config v.defaults m → (d ≡ true → is_driving (stage_of m) ≡ true) → Facts (moded m d v) b
@@ -72,7 +72,7 @@ restage v b m d f n registers replay booting driving = record {
 abbrev stage_event : PartState → Stage → List Entry → Stepped
 stage_event q s released = record { state = q; event = event.Stage s [] released }
 
--- a stage that changes the mode alone, or lets the shadow's call begin
+-- a stage that changes only the mode, or begins the shadow's call
 quiet : (p q : PartState) (b : Past) (s : Stage) (released : List Entry) (m : Mode) (d : Bool) → moded m d (view_of p) ≡ view_of q
     → length q.domain.contexts ≡ 17 → Facts (moded m d (view_of p)) b
     → sees_stage s (watch_of (view_of p) b) ≡ watch_of (moded m d (view_of p)) b
@@ -80,8 +80,8 @@ quiet : (p q : PartState) (b : Past) (s : Stage) (released : List Entry) (m : Mo
     → StepKeeps p b (stage_event q s released)
 quiet p q b s released m d e l f h same held = record {
   counted = λ n x. subst (λ v. Balanced v b (count_stage s n)) e
-      (subst (λ y. Balance (length (view_of p).dev.ring) (length p.queue) (held_at (stage_of m) b.rest) (tally y)) (sym (same n))
-      (subst (λ y. Balance (length (view_of p).dev.ring) (length p.queue) y (tally n)) held x));
+      (subst (λ y. Balance (length (view_of p).dev.ring) (length p.queue) (held_at (stage_of m) b.rest) (frame_counts y)) (sym (same n))
+      (subst (λ y. Balance (length (view_of p).dev.ring) (length p.queue) y (frame_counts n)) held x));
   after = b;
   facts = subst (λ v. Facts v b) e f;
   contexts = l;
@@ -159,7 +159,7 @@ reset_step : (p q : PartState) (b : Past) (m : Mode) → reset_view m (view_of p
     → Facts (view_of p) b → is_driven p ≡ false → Facts (reset_view m (view_of p)) b → StepKeeps p b (stage_event q stage.Reset [])
 reset_step p q b m e l held f d g = record {
   counted = λ n x. subst (λ v. Balanced v b (count_stage stage.Reset n)) e
-      (subst (λ y. Balance 0 (length p.queue) y (tally (count_stage stage.Reset n))) (sym held)
+      (subst (λ y. Balance 0 (length p.queue) y (frame_counts (count_stage stage.Reset n))) (sym held)
       (reset_balance (length (view_of p).dev.ring) (length p.queue) (held_at (stage_of p.mode) b.rest) n x));
   after = b;
   facts = subst (λ v. Facts v b) e g;
@@ -203,7 +203,7 @@ load_step : (p q : PartState) (b : Past) (m : Mode) → moded m (is_driven p) (v
     → is_driven p ≡ false → Facts (moded m (is_driven p) (view_of p)) b → StepKeeps p b (stage_event q stage.Load [])
 load_step p q b m e l held d g = record {
   counted = λ n x. subst (λ v. Balanced v (loaded b) n) e
-      (subst (λ y. Balance (length (view_of p).dev.ring) (length p.queue) y (tally n)) held x);
+      (subst (λ y. Balance (length (view_of p).dev.ring) (length p.queue) y (frame_counts n)) held x);
   after = loaded b;
   facts = subst (λ v. Facts v (loaded b)) e (load_facts (view_of p) b m g);
   contexts = l;

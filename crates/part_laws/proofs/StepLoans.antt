@@ -59,9 +59,9 @@ use Rattle.part_laws.proofs.TiedSteps.{running_is}
 use Rattle.part_laws.specs.Fit.{IsFitSpec, IsFit}
 use Rattle.part_laws.specs.Tied.{IsRising, is_driving_stage, is_driving, IsDriven, IsTied}
 
--- Each step keeps whose buffers are lent; every run does.
+-- Each step keeps the rule on loans, and so does every run.
 
--- what a mode asks
+-- what a mode requires
 
 all_stay : (pending : List CallEntry) → StaysInside pending pending
 all_stay pending thread h = h
@@ -69,7 +69,7 @@ all_stay pending thread h = h
 no_more : (entries : List Entry) → NoMore entries entries
 no_more entries context h = h
 
--- as many calls Inside and no more loans
+-- the same calls Inside and no more loans
 loans_moved : (m : Mode) (before after : List CallEntry) (held kept : List Entry) → StaysInside before after → NoMore held kept
     → AreLoansIn m before held → AreLoansIn m after kept
 loans_moved (mode.Boot s) before after held kept inside more loans = without_more held kept more loans
@@ -119,12 +119,12 @@ held_free p thread c running loans found held = split (list_any (is_buffer_of th
     absurd (true≢false (sym inside ∙ ap is_inside found ∙ held)))
     (λ free. free)
 
--- the loans of the others stand when a thread's call is answered
-others_stand : (thread low count : ℕ) (pending : List CallEntry) (c : CallEntry) (held kept : List Entry) → IsRising low count pending
+-- the loans of the others remain when a thread's call is answered
+others_hold : (thread low count : ℕ) (pending : List CallEntry) (c : CallEntry) (held kept : List Entry) → IsRising low count pending
     → call_of_thread thread pending ≡ Some c → AreForInside pending held → NoMore held kept
     → ((context : ℕ) → list_any (is_buffer_of context) kept ≡ true → (context == thread) ≡ false)
     → AreForInside (without_call c.call pending) kept
-others_stand thread low count pending c held kept rising found loans more other context h =
+others_hold thread low count pending c held kept rising found loans more other context h =
     removed_stays thread low count pending c context rising found (other context h) (loans context (more context h))
 
 answered_loans : (p : PartState) (thread : ℕ) (c : CallEntry) → IsTied p → p.mode ≡ mode.Running → HasLoans p
@@ -133,7 +133,7 @@ answered_loans : (p : PartState) (thread : ℕ) (c : CallEntry) → IsTied p →
 unfolding after_answering
 answered_loans p thread c tied running loans found held =
     for_running p.mode _ p.domain.entries running
-    (others_stand thread 0 p.log.count p.log.pending c p.domain.entries p.domain.entries tied.rising found
+    (others_hold thread 0 p.log.count p.log.pending c p.domain.entries p.domain.entries tied.rising found
     (of_running p.mode p.log.pending p.domain.entries running loans) (no_more p.domain.entries) other)
   where
     other : (context : ℕ) → list_any (is_buffer_of context) p.domain.entries ≡ true → (context == thread) ≡ false
@@ -159,7 +159,7 @@ admitted_loans : (p : PartState) (thread : ℕ) (c : CallEntry) (a : Admit) → 
 unfolding entered_domain after_entering
 admitted_loans p thread c (admits.Reply a) tied running loans found held = answered_loans p thread c tied running loans found held
 admitted_loans p thread c admits.TakeFrame tied running loans found held = answered_loans p thread c tied running loans found held
-admitted_loans p thread c (admits.Enter place) tied running loans found held =
+admitted_loans p thread c (admits.Enter index) tied running loans found held =
     for_running p.mode _ (lent_entries c.thread (buffer_of c.op) p.domain.entries) running
     (subst (λ (k : ℕ). AreForInside (map (change_entry c.call entered_call) p.log.pending) (lent_entries k (buffer_of c.op) p.domain.entries))
     (sym (found_thread thread p.log.pending c found))
@@ -229,7 +229,7 @@ closed_loans p thread c rising running loans found =
     for_running p.mode _ _ running
     (subst (λ (entries : List Entry). AreForInside (without_call c.call p.log.pending) entries) (sym (noted_same c.op (left_domain c.thread p.domain)))
     (subst (λ (k : ℕ). AreForInside (without_call c.call p.log.pending) (without_buffer k p.domain.entries)) (sym (found_thread thread p.log.pending c found))
-    (others_stand thread 0 p.log.count p.log.pending c p.domain.entries (without_buffer thread p.domain.entries) rising found
+    (others_hold thread 0 p.log.count p.log.pending c p.domain.entries (without_buffer thread p.domain.entries) rising found
     (of_running p.mode p.log.pending p.domain.entries running loans) (filter_no_more _ p.domain.entries)
     (λ context h. left_other thread context p.domain.entries h))))
 
@@ -357,7 +357,7 @@ loans_from p (e ∷ events) fit tied loans r =
 pub run_loans : (spec : PartSpec) (journal : List Event) → IsFitSpec spec → IsRun spec journal → HasLoans (state_of spec journal)
 run_loans spec journal s r = loans_from (opening spec) journal (opening_fit spec s) (opening_tied spec) (opening_loans spec) r
 
--- who enters has no buffer
+-- a call that enters has no buffer
 
 free_by : (p : PartState) (thread : ℕ) (o : Option CallEntry) → p.mode ≡ mode.Running → HasLoans p → call_of_thread thread p.log.pending ≡ o
     → is_ready p o ≡ true → list_any (is_buffer_of thread) p.domain.entries ≡ false
@@ -372,12 +372,12 @@ enter_free p thread fit tied loans e =
     let parts = and_parts (is_running p.mode) (is_ready p (call_of_thread thread p.log.pending)) e in
     free_by p thread (call_of_thread thread p.log.pending) (running_is p.mode parts.0) loans refl parts.1
 
--- the shadow, and every thread, from a stage behind Collect on
+-- the shadow and every thread, at each stage after Collect
 pub due_free : (p : PartState) (s : Stage) (context : ℕ) → HasLoans p → stage_due p.mode ≡ Some s → is_unsettled s ≡ false
     → list_any (is_buffer_of context) p.domain.entries ≡ false
 due_free p s context loans due settled = due_without p.mode s p.log.pending p.domain.entries due settled loans context
 
--- the shadow whose call a stage begins
+-- the shadow, when a stage begins its call
 pub stage_free : (p : PartState) (s : Stage) → HasLoans p → enabled p step.Stage ≡ true → stage_due p.mode ≡ Some s → is_driving_stage s ≡ true
     → list_any (is_buffer_of 16) p.domain.entries ≡ false
 stage_free p s loans e due driving = due_free p s 16 loans due (driving_settled s driving)

@@ -16,7 +16,7 @@ use Rattle.nook_data.specs.declared.steps.Stage.TheVariants as stage
 use Rattle.nook_data.specs.declared.steps.Step.{Step}
 use Rattle.nook_data.specs.declared.steps.Step.TheVariants as step
 use Rattle.part_defs.specs.Calls.{Stepped, after_invoke, answer_in, queue_in, after_enter, after_admit}
-use Rattle.nook_data.specs.Classes.{static_check, admit, init_place, open_place, set_place}
+use Rattle.nook_data.specs.Classes.{static_check, admit, init_address, open_point, set_position}
 use Rattle.part_defs.specs.Crossing.{Crossed, after_crossing, heap_start}
 use Rattle.machine_defs.specs.Devices.{with_arrival}
 use Rattle.nook_data.specs.Frames.{tail_of}
@@ -39,13 +39,13 @@ use Rattle.part_defs.specs.Log.{opening_log}
 use Rattle.part_laws.proofs.BurstIsolation.{domain_within}
 use Rattle.machine_defs.proofs.BurstKeeps.{split}
 use Rattle.part_laws.proofs.CrossingFit.{unmoved, quiet, CrossKept, crossed_kept, found_fits}
-use Rattle.part_laws.proofs.DomainFit.{DomainKept, entered_kept, plainly_kept, stopped_kept, collected_kept, loaded_kept, BurstKept, burst_kept, opening_domain_fit, opening_told}
+use Rattle.part_laws.proofs.DomainFit.{DomainKept, entered_kept, plainly_kept, stopped_kept, collected_kept, loaded_kept, BurstKept, burst_kept, opening_domain_fit, opening_reported}
 use Rattle.part_laws.proofs.EntriesFit.{filter_fits, collect_leaves, IsCollected}
 use Rattle.part_laws.proofs.Objects.{SameObjects, nothing_changed, object_stays, op_fits_buffer}
 use Rattle.part_laws.specs.Collection.{CollectsAt, CollectsFrom, IsCollecting}
 use Rattle.part_laws.specs.Fit.{IsFitSpec, IsFitCall, IsFitLog, IsFit}
 
--- Each step keeps what every part keeps, and the kernel's objects.
+-- Each step keeps the invariant of parts, and the kernel's objects.
 
 pub record StepKept (p : PartState) (t : Stepped) : Type 0 where
   pub fit : IsFit t.state
@@ -57,7 +57,7 @@ quiet_isolated : (p : PartState) (e : Event) (q : PartState) → IsFit q → Sam
 quiet_isolated p e q f s w = record {
   objects = λ object one twelve. inl (object_stays object p.domain.memory q.domain.memory s);
   kernel = inl (object_stays 0 p.domain.memory q.domain.memory s);
-  record_told = f.told;
+  record_reported = f.reported;
   within = w;
 }
 
@@ -158,13 +158,13 @@ admitted_kept p c admits.TakeFrame f k =
     quiet_step p (after_admit p c admits.TakeFrame)
     (quiet p p.domain (after_answering c.call p.log) (tail_of p.queue) p.mode p.bursts p.arrived f (unmoved p f) l.0 l.1)
     (nothing_changed p.domain.memory) tt tt
-admitted_kept p c (admits.Enter place) f k =
+admitted_kept p c (admits.Enter index) f k =
     let l = entered_fits p.spec.class p.spec.blocks c.call p.log f.log in
     let t : c.thread < 16 = k.thread in
-    let d : DomainKept (heap_start p) p.domain (entered_domain c.thread place c.op p.domain) =
-    entered_kept (heap_start p) c.thread place c.op p.domain f.domain (omega arith) (op_fits_buffer p.spec.class p.spec.blocks c.op k.checked) in
-    quiet_step p (after_admit p c (admits.Enter place))
-    (quiet p (entered_domain c.thread place c.op p.domain) (after_entering c.call p.log) p.queue p.mode p.bursts p.arrived f d l.0 l.1)
+    let d : DomainKept (heap_start p) p.domain (entered_domain c.thread index c.op p.domain) =
+    entered_kept (heap_start p) c.thread index c.op p.domain f.domain (omega arith) (op_fits_buffer p.spec.class p.spec.blocks c.op k.checked) in
+    quiet_step p (after_admit p c (admits.Enter index))
+    (quiet p (entered_domain c.thread index c.op p.domain) (after_entering c.call p.log) p.queue p.mode p.bursts p.arrived f d l.0 l.1)
     d.objects tt tt
 
 entered_kept_by : (p : PartState) (thread : ℕ) (o : Option CallEntry) → IsFit p → call_of_thread thread p.log.pending ≡ o
@@ -199,7 +199,7 @@ past_burst_kept p context b f k w =
           | inl e ↦ inl (e ∙ object_stays 0 p.domain.memory b.domain.memory k.objects)
           | inr e ↦ inr e
         ];
-        record_told = x.fit.told;
+        record_reported = x.fit.reported;
         within = w;
       };
       collected = tt;
@@ -250,7 +250,7 @@ collects_step p f =
     quiet_step p (collects p)
     (quiet p (collected_domain p.domain) p.log p.queue (with_stage stage.Reset p.mode) p.bursts p.arrived f d f.log refl)
     d.objects tt
-    (record { in_order = f.domain.ordered; live = c.0; told = c.1; left = c.2 })
+    (record { in_order = f.domain.ordered; live = c.0; reported = c.1; left = c.2 })
 
 resets_step : (p : PartState) → IsFit p → StepKept p (resets p)
 unfolding resets
@@ -274,25 +274,25 @@ loads_step p f =
 inits_step : (p : PartState) → IsFit p → StepKept p (inits p)
 unfolding inits
 inits_step p f =
-    let d : DomainKept (heap_start p) p.domain (plainly_entered 16 init_place p.domain) = plainly_kept (heap_start p) 16 init_place p.domain f.domain in
+    let d : DomainKept (heap_start p) p.domain (plainly_entered 16 init_address p.domain) = plainly_kept (heap_start p) 16 init_address p.domain f.domain in
     quiet_step p (inits p)
-    (quiet p (plainly_entered 16 init_place p.domain) p.log p.queue p.mode p.bursts p.arrived f d f.log refl) d.objects tt tt
+    (quiet p (plainly_entered 16 init_address p.domain) p.log p.queue p.mode p.bursts p.arrived f d f.log refl) d.objects tt tt
 
 replays_set_step : (p : PartState) (key value : ℕ) → IsFit p → StepKept p (replays_set key value p)
 unfolding replays_set
 replays_set_step p key value f =
-    let d : DomainKept (heap_start p) p.domain (entered_domain 16 (set_place p.spec.class) (op.Set key value) p.domain) =
-    entered_kept (heap_start p) 16 (set_place p.spec.class) (op.Set key value) p.domain f.domain (omega arith) tt in
+    let d : DomainKept (heap_start p) p.domain (entered_domain 16 (set_position p.spec.class) (op.Set key value) p.domain) =
+    entered_kept (heap_start p) 16 (set_position p.spec.class) (op.Set key value) p.domain f.domain (omega arith) tt in
     quiet_step p (replays_set key value p)
-    (quiet p (entered_domain 16 (set_place p.spec.class) (op.Set key value) p.domain) p.log p.queue p.mode p.bursts p.arrived f d f.log refl)
+    (quiet p (entered_domain 16 (set_position p.spec.class) (op.Set key value) p.domain) p.log p.queue p.mode p.bursts p.arrived f d f.log refl)
     d.objects tt tt
 
 replays_open_step : (p : PartState) → IsFit p → StepKept p (replays_open p)
 unfolding replays_open
 replays_open_step p f =
-    let d : DomainKept (heap_start p) p.domain (plainly_entered 16 open_place p.domain) = plainly_kept (heap_start p) 16 open_place p.domain f.domain in
+    let d : DomainKept (heap_start p) p.domain (plainly_entered 16 open_point p.domain) = plainly_kept (heap_start p) 16 open_point p.domain f.domain in
     quiet_step p (replays_open p)
-    (quiet p (plainly_entered 16 open_place p.domain) p.log p.queue p.mode p.bursts p.arrived f d f.log refl) d.objects tt tt
+    (quiet p (plainly_entered 16 open_point p.domain) p.log p.queue p.mode p.bursts p.arrived f d f.log refl) d.objects tt tt
 
 resumes_step : (p : PartState) → IsFit p → StepKept p (resumes p)
 unfolding resumes
@@ -351,7 +351,7 @@ opening_fit spec s = record {
   spec = s;
   domain = opening_domain_fit _ spec;
   log = record { config = refl; defaults = refl; calls = tt };
-  told = opening_told spec.class;
+  reported = opening_reported spec.class;
 }
 
 -- every run

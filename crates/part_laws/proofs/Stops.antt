@@ -14,13 +14,13 @@ use Rattle.part_laws.specs.Allowed.{allows, allows_each}
 use Rattle.part_defs.specs.Log.{shadow_answer, is_held, queue_after, with_answer, stop_answers, stop_queue}
 use Rattle.promise_defs.proofs.PromiseCases.{closes}
 use Rattle.part_defs.proofs.PartCases.{stop_calls}
-use Rattle.nook_data.specs.Places.{at_number, change_number}
+use Rattle.nook_data.specs.Numbered.{at_number, change_number}
 use Rattle.part_defs.specs.Stages.{stops}
 use Rattle.part_defs.specs.State.{PartState}
 use Rattle.part_defs.specs.Steps.{is_driven}
 use Rattle.promise_defs.specs.Trace.{Visible, Track, answer, kept_blocks, shown_answers}
 use Rattle.part_laws.specs.Counts.{Counts, count_answer, count_answers}
-use Rattle.part_laws.specs.Balance.{tally, held_at, Balance}
+use Rattle.part_laws.specs.Balance.{frame_counts, held_at, Balance}
 use Rattle.part_laws.specs.Recovery.{StepKeeps}
 use Rattle.part_laws.specs.Facts.{At, CallsFacts, DiskFacts, Sub, is_once, Facts}
 use Rattle.part_laws.specs.Moves.{stop_core, with_core}
@@ -29,10 +29,10 @@ use Rattle.part_laws.proofs.Balances.{answered_balance}
 use Rattle.part_laws.proofs.Closing.{Comes, answer_shown}
 use Rattle.part_laws.proofs.Keeping.{Less, AllLess, calls_less, SameWrite, SameWrites, disk_same}
 use Rattle.part_laws.proofs.OpenCalls.{open_stop}
-use Rattle.part_laws.proofs.Places.{get_map, from_map, get_mid, set_mid, map_swap, map_join, length_map, change_at}
+use Rattle.part_laws.proofs.Indices.{get_map, from_map, get_mid, set_mid, map_swap, map_join, length_map, change_at}
 use Rattle.part_laws.proofs.Shadow.{ShadowSays, shadow_says}
 
--- Stop: each open call is answered by the shadow's table, or held.
+-- Stop: the shadow's table answers or holds each open call.
 
 -- ---- the calls
 
@@ -112,7 +112,7 @@ stop_call c = with_core stop_core c
 abbrev with_opened : Ideal → List Opened → List (List ℕ) → Ideal
 with_opened m opened frames = record m { opened = opened; pending = frames }
 
--- open calls of the device, answered as the entries say, end as the target
+-- the device's open calls, answered as the entries say, become the target
 pub record Stopped (m : Ideal) (opened : List Opened) (entries : List CallEntry) (queue tail frames : List (List ℕ)) (ts : List Track)
     (target : List Opened) : Type 0 where
   pub left : List (List ℕ)
@@ -121,13 +121,13 @@ pub record Stopped (m : Ideal) (opened : List Opened) (entries : List CallEntry)
       → ran (with_opened m opened frames) (shown_answers (stop_answers entries m.config m.holder queue) ts ++ more)
       ≡ ran (with_opened m target left) more
   pub allowed : (q : List (List ℕ)) (w : Watch) → allows_each (Some stage.Stop) q w (stop_answers entries m.config m.holder queue) ≡ true
-  pub counted : (ring held : ℕ) (t : Counts) → Balance ring (length queue) held (tally t)
-      → Balance ring (length (stop_queue entries queue)) held (tally (count_answers (stop_answers entries m.config m.holder queue) t))
+  pub counted : (ring held : ℕ) (t : Counts) → Balance ring (length queue) held (frame_counts t)
+      → Balance ring (length (stop_queue entries queue)) held (frame_counts (count_answers (stop_answers entries m.config m.holder queue) t))
 
 move_front : (front : List Opened) (o : Opened) (os : List Opened) → (front ++ o ∷ []) ++ os ≡ front ++ (o ∷ os)
 move_front front o os = append_assoc front (o ∷ []) os
 
--- what the later calls make, seen from before a call that stays as it is
+-- what the later calls become, if the call before them does not change
 past_call : (m : Ideal) (front : List Opened) (o o' : Opened) (os os' : List Opened) (es : List CallEntry) (queue tail frames : List (List ℕ)) (ts : List Track)
     → o ≡ o' → Stopped m ((front ++ o' ∷ []) ++ os) es queue tail frames ts ((front ++ o' ∷ []) ++ os')
     → Stopped m (front ++ (o ∷ os)) es queue tail frames ts (front ++ (o' ∷ os'))
@@ -135,7 +135,7 @@ past_call m front o o' os os' es queue tail frames ts e s =
     subst (λ l. Stopped m l es queue tail frames ts (front ++ (o' ∷ os'))) (move_front front o' os ∙ ap (λ x. front ++ (x ∷ os)) (sym e))
     (subst (λ l. Stopped m ((front ++ o' ∷ []) ++ os) es queue tail frames ts l) (move_front front o' os') s)
 
--- the first call is answered, or held
+-- the first call is answered or held
 one_stop : (m : Ideal) (front : List Opened) (n : ℕ) (c : Core) (o : Opened) (os os' : List Opened) (es : List CallEntry) (queue tail frames : List (List ℕ))
     (ts : List Track) → n ≡ suc (length front) → o.thread ≡ c.thread → o.op ≡ c.op → o.waits ≡ true → static_check m.class m.size o.op ≡ None
     → (r : Option Answer) → shadow_answer c.op c.thread m.config m.holder stage.Stop queue ≡ r
@@ -150,8 +150,8 @@ one_stop m front n c o os os' es queue tail frames ts e et eo w ch None a s late
   shown = λ more. ap (λ l. ran (with_opened m (front ++ (o ∷ os)) frames) (shown_answers (with_answer n l (stop_answers es m.config m.holder (queue_after c.op queue))) ts ++ more)) a
       ∙ next.shown more;
   allowed = λ q v. ap (λ l. allows_each (Some stage.Stop) q v (with_answer n l (stop_answers es m.config m.holder (queue_after c.op queue)))) a ∙ next.allowed q v;
-  counted = λ ring held t x. subst (λ l. Balance ring (length (stop_queue es (queue_after c.op queue))) held (tally (count_answers (with_answer n l (stop_answers es m.config m.holder (queue_after c.op queue))) t))) (sym a)
-      (next.counted ring held t (subst (λ l. Balance ring (length l) held (tally t)) (sym s.1) x));
+  counted = λ ring held t x. subst (λ l. Balance ring (length (stop_queue es (queue_after c.op queue))) held (frame_counts (count_answers (with_answer n l (stop_answers es m.config m.holder (queue_after c.op queue))) t))) (sym a)
+      (next.counted ring held t (subst (λ l. Balance ring (length l) held (frame_counts t)) (sym s.1) x));
 }
   where
     next : Stopped m (front ++ (o ∷ os)) es (queue_after c.op queue) tail frames ts (front ++ (record o { waits = is_held c.op } ∷ os'))
@@ -178,7 +178,7 @@ one_stop m front n c o os os' es queue tail frames ts e et eo w ch (Some x) a s 
   allowed = λ q v. ap (λ l. allows_each (Some stage.Stop) q v (with_answer n l (stop_answers es m.config m.holder (queue_after c.op queue)))) a
       ∙ and_from (allows (Some stage.Stop) q v n x) (allows_each (Some stage.Stop) q v (stop_answers es m.config m.holder (queue_after c.op queue)))
       (s.allowed q v n) (next.allowed q v);
-  counted = λ ring held t y. subst (λ l. Balance ring (length (stop_queue es (queue_after c.op queue))) held (tally (count_answers (with_answer n l (stop_answers es m.config m.holder (queue_after c.op queue))) t))) (sym a)
+  counted = λ ring held t y. subst (λ l. Balance ring (length (stop_queue es (queue_after c.op queue))) held (frame_counts (count_answers (with_answer n l (stop_answers es m.config m.holder (queue_after c.op queue))) t))) (sym a)
       (next.counted ring held (count_answer n x t) (answered_balance ring held n queue (queue_after c.op queue) x t s.counted y));
 }
   where
@@ -245,8 +245,8 @@ stop_ok p b f held d = with_answers (stops_shown (ideal_of (view_of p) b) [] 1 b
         → StepKeeps p b (stops p)
     with_answers s = record {
       counted = λ t x. subst (λ l. Balance (length (view_of p).dev.ring) (length (stop_queue l p.queue)) (length b.rest)
-          (tally (count_answers (stop_answers l p.log.config p.log.holder p.queue) t))) (sym open_now)
-          (s.counted (length (view_of p).dev.ring) (length b.rest) t (subst (λ h. Balance (length (view_of p).dev.ring) (length p.queue) h (tally t)) held x));
+          (frame_counts (count_answers (stop_answers l p.log.config p.log.holder p.queue) t))) (sym open_now)
+          (s.counted (length (view_of p).dev.ring) (length b.rest) t (subst (λ h. Balance (length (view_of p).dev.ring) (length p.queue) h (frame_counts t)) held x));
       after = record b { calls = calls; frames = s.left };
       facts = record {
         linked = f.linked;

@@ -4,9 +4,9 @@ use Rattle.std.proofs.lemmas.Slice.Eq.{bytes_eq-Decides}
 use Rattle.promise_defs.specs.Ideal.{after_frame}
 use Rattle.promise_defs.specs.Contract.{is_front}
 use Rattle.part_laws.specs.Facts.{Sub}
-use Rattle.part_laws.proofs.Places.{split}
+use Rattle.part_laws.proofs.Indices.{split}
 
--- Frames that are among others in their order.
+-- Frames that are among others in the same order.
 
 pub same_bytes : (xs ys : List ℕ) → bytes_eq xs ys ≡ true → xs ≡ ys
 same_bytes xs ys h = (bytes_eq-Decides xs ys).0 h
@@ -63,7 +63,7 @@ pub sub_without_mid : (front mid back ys : List (List ℕ)) → Sub (front ++ (m
 sub_without_mid front mid back ys h =
     sub_after (front ++ back) (front ++ (mid ++ back)) ys (sub_keep front back (mid ++ back) (sub_suffix mid back)) h
 
--- a frame that comes behind
+-- a frame that is appended
 pub sub_lost : (xs ys : List (List ℕ)) (f : List ℕ) → Sub xs ys → Sub xs (ys ++ f ∷ [])
 sub_lost xs ys f h = sub_after xs ys (ys ++ f ∷ []) h (sub_prefix ys (f ∷ []))
 
@@ -76,7 +76,7 @@ abbrev head_or : List ℕ → List (List ℕ) → List ℕ
 head_or d [] = d
 head_or d (x ∷ xs) = x
 
--- what is taken from the link where the first frame of the chain is
+-- what the link loses if a frame is the first of the chain
 pub record Taken (f : List ℕ) (xs ys : List (List ℕ)) : Type 0 where
   pub rest : List (List ℕ)
   pub after : after_frame f ys ≡ Some rest
@@ -97,7 +97,7 @@ sub_front f xs (y ∷ ys) h = split (bytes_eq y f)
         { rest = (go i).rest; after = cond-false (bytes_eq y f) (Some ys) (after_frame f ys) e ∙ (go i).after; chain = (go i).chain }
     later e (inr (more, d, i)) go = absurd cc (e, bytes_same y f (sym (ap (head_or f) d)))
 
--- the frame that goes up is the first that was popped and not handed up
+-- the frame handed up is the first that was popped and not yet handed up
 pub prefix_next : (handed rest : List (List ℕ)) (f : List ℕ) → is_front (handed ++ f ∷ []) (handed ++ rest) ≡ true
     → (more : List (List ℕ)) × (rest ≡ f ∷ more)
 prefix_next [] [] f h = absurd cc

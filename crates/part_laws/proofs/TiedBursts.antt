@@ -13,7 +13,7 @@ use Rattle.nook_data.specs.declared.steps.Step.{Step}
 use Rattle.nook_data.specs.declared.steps.Step.TheVariants as step
 use Rattle.nook_data.specs.declared.machine.Context.{Context}
 use Rattle.machine_defs.specs.Burst.{Burst, burst}
-use Rattle.nook_data.specs.Classes.{init_place, open_place, set_place}
+use Rattle.nook_data.specs.Classes.{init_address, open_point, set_position}
 use Rattle.part_defs.specs.Crossing.{after_crossing}
 use Rattle.part_defs.specs.Domain.{context_of, machine_of, after_burst, domain_burst, entered_domain, plainly_entered}
 use Rattle.part_defs.specs.Domain.{stopped_domain, collected_domain, loaded_domain}
@@ -39,7 +39,7 @@ use Rattle.std.proofs.lemmas.List.{length-set}
 use Rattle.part_laws.proofs.TiedSteps.{price, StepTied, threads_of_fit, running_is, invoke_tied, enter_tied, arrive_tied}
 use Rattle.nook_data.proofs.Options.{none_is_some, same_inside}
 
--- Bursts and stages keep how calls, contexts and mode hang together; every step does.
+-- Bursts and stages keep calls, contexts and mode consistent, and so does every step.
 
 -- a burst of a thread's call
 
@@ -449,11 +449,11 @@ stage_done_tied threads p stage.Load f t few free due =
     moved_step threads p stage.Load stage.Init (with_stage stage.Init p.mode) (loaded_domain p.spec.image p.domain) _ t free refl due (omega arith)
     (moved threads p.failures p.mode stage.Load stage.Init due refl refl tt) refl
 stage_done_tied threads p stage.Init f t few free due =
-    driven_step threads p stage.Init _ (plainly_entered 16 init_place p.domain) _ f t free refl refl due refl refl
+    driven_step threads p stage.Init _ (plainly_entered 16 init_address p.domain) _ f t free refl refl due refl refl
 stage_done_tied threads p (stage.ReplaySet key value) f t few free due =
-    driven_step threads p (stage.ReplaySet key value) _ (entered_domain 16 (set_place p.spec.class) (op.Set key value) p.domain) _ f t free refl refl due refl refl
+    driven_step threads p (stage.ReplaySet key value) _ (entered_domain 16 (set_position p.spec.class) (op.Set key value) p.domain) _ f t free refl refl due refl refl
 stage_done_tied threads p stage.ReplayOpen f t few free due =
-    driven_step threads p stage.ReplayOpen _ (plainly_entered 16 open_place p.domain) _ f t free refl refl due refl refl
+    driven_step threads p stage.ReplayOpen _ (plainly_entered 16 open_point p.domain) _ f t free refl refl due refl refl
 stage_done_tied threads p stage.Resume f t few free due = resume_step threads p t free due
 
 stage_tied_by : (threads : ℕ) (p : PartState) (o : Option Stage) → IsFit p → IsTied p → length p.log.pending ≤ threads

@@ -10,7 +10,7 @@ use Rattle.part_defs.proofs.PartCases.{bursts_of, change_entry, is_of_thread, ne
 use Rattle.machine_defs.proofs.BurstKeeps.{split}
 use Rattle.part_laws.specs.Tied.{IsRising, AreApart}
 
--- Open calls and contexts: what a change of one of them leaves of the others.
+-- Open calls and contexts: what remains of the others when one of them changes.
 
 -- contexts
 
@@ -36,7 +36,7 @@ no_contexts zero i = refl
 no_contexts (suc n) zero = refl
 no_contexts (suc n) (suc i) = no_contexts n i
 
--- the contexts of all threads but one are as they were
+-- the contexts of all threads but one do not change
 abbrev pub SameBut : ℕ → List (Option Context) → List (Option Context) → Type 0
 SameBut t before after = (j : ℕ) → j < 16 → (j == t) ≡ false → context_of j after ≡ context_of j before
 
@@ -144,7 +144,7 @@ apart_push thread call o pending h a = go pending (no_call_apart thread pending 
     go [] all a' = (tt, tt)
     go (x ∷ xs) all a' = (others x.thread xs all.0 a'.0, go xs all.1 a'.1)
 
--- the call of a thread is another thread's never, and the only one with its number
+-- a thread's call never belongs to another thread, and no other has its number
 
 above_not_call : (call low count : ℕ) (pending : List CallEntry) → call ≤ low → IsRising low count pending
     → AllByRecursion (λ d. is_call call d ≡ false) pending
@@ -208,7 +208,7 @@ rest_removed P Q test thread (d ∷ pending) others t all =
     (λ kept. rw (kept, filter) (others d t.0 all.0, more))
     (λ gone. rw (gone, filter) more)
 
--- what all calls but one become, when that one is taken off
+-- what all calls but one become when that one is removed
 pub one_removed : (P Q : CallEntry → Type 0) (thread : ℕ) (pending : List CallEntry) (c : CallEntry)
     → ((d : CallEntry) → (d.thread == thread) ≡ false → P d → Q d)
     → AreApart pending → call_of_thread thread pending ≡ Some c → AllByRecursion P pending

@@ -32,8 +32,8 @@ use Rattle.part_laws.proofs.EntriesFit.{filter_fits}
 use Rattle.part_laws.proofs.TiedCalls.{context_set_same, context_set_other, SameBut, set_same_but, rising_filter, apart_filter, one_removed, without_call, inside_left, call_left, calls_left, AreThreads, same_calls_left, one_less, removed_left}
 use Rattle.part_laws.specs.Tied.{IsRising, AreApart, GoesOn, is_stop, IsAwayCall, IsRunningCall, IsTiedCall, is_driving_stage, is_driving, IsDriven, IsFitStage, IsFitMode, IsTied}
 
--- How many events a part may still have while it gives no number and has no failure: those of its open calls, and
--- those of the shadow, where so many threads have open calls.
+-- How many events a part may still have without a new call or a failure: those of its open calls, and those of the
+-- shadow, when a given number of threads have open calls.
 
 abbrev pub stage_left : ℕ → Stage → ℕ
 stage_left threads stage.Stop = 33 * threads + 203
@@ -52,7 +52,7 @@ mode_left threads (mode.Recovering s) = stage_left threads s
 mode_left threads (mode.Dead false) = 202
 mode_left threads (mode.Dead true) = 0
 
--- what the shadow's call spent of its stage
+-- what the shadow's call has used of its stage
 abbrev pub spent : Option Context → ℕ
 spent None = 0
 spent (Some x) = 1 + x.bursts
@@ -60,7 +60,7 @@ spent (Some x) = 1 + x.bursts
 abbrev pub left : ℕ → PartState → ℕ
 left threads p = calls_left p.domain.contexts p.log.pending + (mode_left threads p.mode - spent (context_of 16 p.domain.contexts))
 
--- what a failure pays
+-- what a failure adds
 abbrev pub round : ℕ → ℕ
 round threads = 33 * threads + 203
 
@@ -68,7 +68,7 @@ abbrev pub failure_price : ℕ → Option FailCause → ℕ
 failure_price threads None = 0
 failure_price threads (Some cause) = round threads
 
--- what a crossing leaves, for a part that burst
+-- what holds after a crossing
 pub record CrossTied (threads : ℕ) (p : PartState) (c : Crossed) : Type 0 where
   pub tied : IsTied c.state
   pub cost : left threads c.state ≤ left threads p + failure_price threads c.failure
@@ -165,7 +165,7 @@ call_failing t p c y b = record {
 pub goes_on_some : (o : Option Context) (y : Context) → o ≡ Some y → y.bursts ≤ 31 → GoesOn o
 goes_on_some o y e h = subst GoesOn (sym e) h
 
--- a call goes on while its contexts change by no burst
+-- a call continues when its context changes without a burst
 call_goes_on : (threads t : ℕ) (p : PartState) (c : CallEntry) (y y' : Context) (d : DomainState) (queue : List (List ℕ)) (e : End)
     → IsCallBurst t p c y → SameBut t p.domain.contexts d.contexts → context_of t d.contexts ≡ Some y' → y'.bursts ≡ y.bursts
     → y.bursts ≤ 31 → context_of 16 d.contexts ≡ None
@@ -411,7 +411,7 @@ own_served threads number p y (Ok s) b early =
     within : (n : ℕ) → n ≡ 17 → 16 < n
     within n e = omega arith
 
--- the stage behind a replay
+-- the stage after a replay
 
 record IsNext (threads most : ℕ) (s : Stage) : Type 0 where
   away : is_stop s ≡ false
@@ -457,7 +457,7 @@ driving_left threads stage.Reset d f = absurd (true≢false (sym d))
 driving_left threads stage.Load d f = absurd (true≢false (sym d))
 driving_left threads stage.Resume d f = absurd (true≢false (sym d))
 
--- behind a stage that drives the driver a replay or Resume follows
+-- a replay or Resume follows a stage that drives the driver
 pub mode_after_drive : (s : Stage) (log : CallLog) → is_driving_stage s ≡ true
     → mode_after s log (mode.Recovering s) ≡ mode.Recovering (replay_after s log)
 mode_after_drive stage.Init log d = refl

@@ -31,9 +31,9 @@ use Rattle.part_laws.proofs.TiedCrossing.{spent, left, failure_price, all_weaker
 use Rattle.part_laws.specs.Fit.{IsFitCall, IsFit}
 use Rattle.part_laws.specs.Tied.{GoesOn, IsRunningCall, IsTiedCall, IsDriven, IsTied}
 
--- Each step keeps how calls, contexts and mode hang together; what it costs.
+-- Each step keeps calls, contexts and mode consistent; what it costs.
 
--- what an event pays
+-- what an event costs
 abbrev pub price : ℕ → Event → ℕ
 price threads (event.Invoke call thread o answer) = 34
 price threads (event.Burst context call burst count e acts answer failure) = failure_price threads failure
@@ -221,10 +221,10 @@ admitted_tied : (threads : ℕ) (p : PartState) (thread : ℕ) (c : CallEntry) (
 unfolding entered_domain
 admitted_tied threads p thread c (admits.Reply a) f t running found held = answered_tied threads p thread c p.queue _ f t found held refl
 admitted_tied threads p thread c admits.TakeFrame f t running found held = answered_tied threads p thread c (tail_of p.queue) _ f t found held refl
-admitted_tied threads p thread c (admits.Enter place) f t running found held =
-    inside_tied threads p thread c (entry_context (slice_index p.domain.starts place) c.thread (arguments_of c.thread c.op))
-    (entered_domain c.thread place c.op p.domain) _ f t running found held refl
-    (ap (λ (k : ℕ). slice_set p.domain.contexts k (Some (entry_context (slice_index p.domain.starts place) c.thread (arguments_of c.thread c.op))))
+admitted_tied threads p thread c (admits.Enter index) f t running found held =
+    inside_tied threads p thread c (entry_context (slice_index p.domain.starts index) c.thread (arguments_of c.thread c.op))
+    (entered_domain c.thread index c.op p.domain) _ f t running found held refl
+    (ap (λ (k : ℕ). slice_set p.domain.contexts k (Some (entry_context (slice_index p.domain.starts index) c.thread (arguments_of c.thread c.op))))
     (found_thread thread p.log.pending c found)) refl
 
 enter_tied_by : (threads : ℕ) (p : PartState) (thread : ℕ) (o : Option CallEntry) → IsFit p → IsTied p → p.mode ≡ mode.Running

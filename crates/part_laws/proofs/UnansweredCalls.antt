@@ -1,4 +1,4 @@
--- What each step of a part does to its open calls: what is open was invoked by its thread alone, and nothing answered it.
+-- Each step of a part leaves open only calls that their own thread invoked and that nothing has answered.
 use Rattle.std.proofs.Common.{◌≡◌, ◌⊎◌, ℕ, ◌+◌, ◌<◌, ◌≤◌, Bool, true, false, cond, Option, Some, None, List, [], ◌∷◌, filter, find, subst, sym, refl, ap, ◌∙◌, inl, inr, arith, eqb-true}
 use Rattle.std.specs.Prelude.{if◌then◌else◌, ◌==◌}
 use Rattle.std.specs.List.{AllByRecursion}
@@ -40,7 +40,7 @@ use Rattle.part_defs.specs.Steps.{after_arrival, burst_stepped, served_number, s
 use Rattle.machine_defs.specs.BurstFaults.{faults_of_burst}
 use Rattle.part_laws.proofs.CallNumbers.{AllOpen, CameFrom, HasEntry, InvokesAbove, KeepsCall, Quiet, Silent, LogStepped, all_bounds, none_call, numbered_bound, numbered_filter, numbered_map, open_both, open_filter, open_has, open_itself, open_map, open_weaker, other_call, small_calls, stepped_answered, stepped_at_once, stepped_changed, stepped_open, stepped_same}
 use Rattle.part_laws.proofs.OrderlyRuns.{ClosesCall, ClosesNone, crossing_crosses, served_is}
-use Rattle.part_laws.proofs.Places.{split}
+use Rattle.part_laws.proofs.Indices.{split}
 
 above_one : (a b : ℕ) (e : Event) → a ≤ b → InvokesAbove b e → InvokesAbove a e
 above_one a b (event.Invoke c t o answer) l h = omega arith
@@ -56,7 +56,7 @@ above_more a b (e ∷ events) l h = (above_one a b e l h.0, above_more a b event
 if_other : {X : Type 0} (n m : ℕ) (x y : X) → (n ≡ m → ⊥) → (if n == m then x else y) ≡ y
 if_other n m x y h = grind (arith, nat_tests)
 
--- an answer to another call is passed over
+-- an answer to another call is skipped
 skipped : (call c : ℕ) (a : Option Answer) (answers : List (ℕ × Answer)) → (c ≡ call → ⊥) → answer_among call answers ≡ None → answer_among call (with_answer c a answers) ≡ None
 skipped call c None answers n h = h
 skipped call c (Some a) answers n h = if_other c call (Some a) (answer_among call answers) n ∙ h
@@ -100,7 +100,7 @@ admit_law p c (admits.Reply a) h l =
     stepped_answered p.log (after_answering c.call p.log) (event.Enter c.call c.thread (c.attempts + 1) (Some a)) c.call h l refl refl (λ d t n. (other_call d c.call (Some a) n, tt)) (λ n. tt)
 admit_law p c admits.TakeFrame h l =
     stepped_answered p.log (after_answering c.call p.log) (after_admit p c admits.TakeFrame).event c.call h l refl refl (λ d t n. (other_call d c.call (Some (answer.Frame (head_of p.queue))) n, tt)) (λ n. tt)
-admit_law p c (admits.Enter place) h l =
+admit_law p c (admits.Enter index) h l =
     stepped_changed p.log (after_entering c.call p.log) (event.Enter c.call c.thread (c.attempts + 1) None) (change_entry c.call entered_call) (enters_keep c.call) h refl refl (enter_silent c.call c.thread (c.attempts + 1))
 
 enter_by : (p : PartState) (thread : ℕ) (o : Option CallEntry) → call_of_thread thread p.log.pending ≡ o → IsNumbered 0 p.log.count p.log.pending → LogStepped p.log (entered_by p thread o).state.log (entered_by p thread o).event
@@ -113,13 +113,13 @@ enter_by p thread (Some c) e h =
 burst_silent : (context call burst count : ℕ) (e : End) (acts : List Act) (f : Option FailCause) → Silent (event.Burst context call burst count e acts None f)
 burst_silent context call burst count e acts f = (λ c t. (none_call c call, tt), λ n. tt)
 
--- a crossing leaves the open calls, or answers the context's own call
+-- a crossing does not change the open calls, or answers the context's own call
 burst_by : (context : ℕ) (p : PartState) (b : DomainBurst) (x : Crossed) → IsNumbered 0 p.log.count p.log.pending
     → ClosesNone (with_burst b.domain p) x ⊎ ClosesCall context (with_burst b.domain p) x
     → LogStepped p.log (burst_event context p b x).state.log (burst_event context p b x).event
 burst_by context p b x h (inl k) =
     stepped_same p.log x.state.log (burst_event context p b x).event h k.pending k.count
-    (subst (λ a. Silent (event.Burst context (served_number context p) (p.bursts + 1) b.count x.end b.acts a x.failure)) (sym k.told)
+    (subst (λ a. Silent (event.Burst context (served_number context p) (p.bursts + 1) b.count x.end b.acts a x.failure)) (sym k.reported)
     (burst_silent context (served_number context p) (p.bursts + 1) b.count x.end b.acts x.failure))
 burst_by context p b x h (inr k) =
     let served = served_is context p k.c k.other k.found in
@@ -250,7 +250,7 @@ step_law p (step.Burst context) h =
 step_law p step.Stage h = stage_by_law p (stage_due p.mode) h
 step_law p (step.Arrive frame) h = stepped_same p.log p.log (event_of p (step.Arrive frame)) h refl refl (λ c t. (refl, tt), λ n. tt)
 
--- what stands open after a run was not answered in it, and was invoked for its thread alone
+-- a call that is open after a run was not answered in it, and was invoked only for its thread
 abbrev OpenAfter : PartState → List Event → Type 0
 OpenAfter p events =
     IsNumbered 0 (state_from p events).log.count (state_from p events).log.pending
@@ -272,7 +272,7 @@ open_after p (e ∷ events) h r =
     came c t s quiet (inl k) = let f = open_has (λ c t. Quiet c t e × CameFrom p.log c t) (state_after p (step_of e)).log.pending c t s.quiet k in ((f.0, quiet), f.1)
     came c t s quiet (inr l) = ((s.beyond c t l, quiet), inr (let m = s.more in omega arith))
 
--- invocations behind a state have higher numbers than those before
+-- invocations after a state have higher numbers than those before
 pub fresh_after : (p : PartState) (events : List Event) → IsNumbered 0 p.log.count p.log.pending → IsRunFrom p events → AllByRecursion (InvokesAbove p.log.count) events
 unfolding IsRunFrom state_from
 fresh_after p [] h r = tt

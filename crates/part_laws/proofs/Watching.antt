@@ -6,45 +6,45 @@ use Rattle.nook_data.specs.declared.calls.Op.{Op}
 use Rattle.nook_data.specs.declared.calls.Op.TheVariants.{Read, Write, Send, Recv, Open, Play, Close, Get, Set}
 use Rattle.promise_defs.specs.Blocks.{words_for}
 use Rattle.nook_data.specs.Classes.{covers, is_write}
-use Rattle.part_laws.specs.Watch.{Watch, Watched, wanted, stores_at, is_covered, is_agreed, is_setting, sees_act, sees_acts}
-use Rattle.nook_data.specs.Places.{at_number, number_where, one_later}
+use Rattle.part_laws.specs.Watch.{Watch, Watched, required, stores_at, is_covered, is_agreed, is_setting, sees_act, sees_acts}
+use Rattle.nook_data.specs.Numbered.{at_number, number_where, one_later}
 use Rattle.promise_defs.specs.Contract.{sets}
 use Rattle.part_laws.specs.Facts.{At}
-use Rattle.part_laws.proofs.Places.{split, some_same}
+use Rattle.part_laws.proofs.Indices.{split, some_same}
 use Rattle.part_laws.proofs.Subs.{same_bytes}
 
--- What a kept clause says.
+-- What follows from a kept clause.
 
--- a clause that is not broken was kept, and so were those before
-pub wanted_met : (t : Bool) (n : ℕ) (broken : Option ℕ) → wanted t n broken ≡ None → (t ≡ true) × (broken ≡ None)
-wanted_met true n broken h = (refl, h)
-wanted_met false n broken h = absurd cc
+-- a clause that is not broken was kept, and the earlier ones too
+pub required_met : (t : Bool) (n : ℕ) (broken : Option ℕ) → required t n broken ≡ None → (t ≡ true) × (broken ≡ None)
+required_met true n broken h = (refl, h)
+required_met false n broken h = absurd cc
 
-pub wanted_same : (t : Bool) (n : ℕ) (broken : Option ℕ) → t ≡ true → wanted t n broken ≡ broken
-wanted_same true n broken h = refl
-wanted_same false n broken h = absurd cc
+pub required_same : (t : Bool) (n : ℕ) (broken : Option ℕ) → t ≡ true → required t n broken ≡ broken
+required_same true n broken h = refl
+required_same false n broken h = absurd cc
 
 pub act_clause : (call : ℕ) (a : Act) (w : Watch) → (sees_act call a w).clause ≡ None → w.clause ≡ None
 act_clause call (act.Load block) w h = h
 act_clause call (act.Failed block store) w h = h
-act_clause call (act.Store block words) w h = (wanted_met _ 2 w.clause (wanted_met _ 1 (wanted _ 2 w.clause) h).1).1
-act_clause call (act.Sent frame) w h = (wanted_met _ 6 w.clause (wanted_met _ 5 (wanted _ 6 w.clause) h).1).1
+act_clause call (act.Store block words) w h = (required_met _ 2 w.clause (required_met _ 1 (required _ 2 w.clause) h).1).1
+act_clause call (act.Sent frame) w h = (required_met _ 6 w.clause (required_met _ 5 (required _ 6 w.clause) h).1).1
 act_clause call (act.Popped frame) w h = h
-act_clause call (act.Played word rate volume) w h = (wanted_met _ 10 w.clause h).1
-act_clause call (act.Register key value) w h = (wanted_met _ 12 w.clause h).1
+act_clause call (act.Played word rate volume) w h = (required_met _ 10 w.clause h).1
+act_clause call (act.Register key value) w h = (required_met _ 12 w.clause h).1
 
--- no act mends a broken clause
+-- no act clears a broken clause
 pub acts_clause : (call : ℕ) (acts : List Act) (w : Watch) → (sees_acts call acts w).clause ≡ None → w.clause ≡ None
 acts_clause call [] w h = h
 acts_clause call (a ∷ acts) w h = act_clause call a w (acts_clause call acts (sees_act call a w) h)
 
 -- ---- the first item that passes a test
 
--- an item found passes the test
+-- the item that was found passes the test
 pub record FoundWhere {X : Type 0} (test : X → Bool) (xs : List X) (x : X) : Type 0 where
-  pub place : ℕ
-  pub number : number_where test xs ≡ suc place
-  pub at : At xs place x
+  pub index : ℕ
+  pub number : number_where test xs ≡ suc index
+  pub at : At xs index x
   pub passes : test x ≡ true
 
 pub where_at : {X : Type 0} (test : X → Bool) (xs : List X) (x : X) → at_number (number_where test xs) xs ≡ Some x → FoundWhere test xs x
@@ -56,7 +56,7 @@ where_at {X} test (y ∷ xs) x h = split (test y)
   where
     here : test y ≡ true → Some y ≡ Some x → FoundWhere test (y ∷ xs) x
     here t e = record
-        { place = 0; number = cond-true (test y) 1 (one_later (number_where test xs)) t; at = e; passes = ap test (sym (some_same y x e)) ∙ t }
+        { index = 0; number = cond-true (test y) 1 (one_later (number_where test xs)) t; at = e; passes = ap test (sym (some_same y x e)) ∙ t }
 
     there : test y ≡ false → (n : ℕ) → number_where test xs ≡ n → at_number (one_later n) (y ∷ xs) ≡ Some x
         → (at_number (number_where test xs) xs ≡ Some x → FoundWhere test xs x) → FoundWhere test (y ∷ xs) x
@@ -65,7 +65,7 @@ where_at {X} test (y ∷ xs) x h = split (test y)
       where
         further : FoundWhere test xs x → FoundWhere test (y ∷ xs) x
         further f = record {
-          place = suc f.place;
+          index = suc f.index;
           number = cond-false (test y) 1 (one_later (number_where test xs)) t ∙ ap one_later f.number;
           at = f.at;
           passes = f.passes;
@@ -86,9 +86,9 @@ where_only test (y ∷ xs) (suc k) x h t only = split (test y)
 
 -- a Write that is Inside and covers a block
 pub record StoresAt (block : ℕ) (ws : List Watched) : Type 0 where
-  pub place : ℕ
+  pub index : ℕ
   pub call : Watched
-  pub at : At ws place call
+  pub at : At ws index call
   pub inside : call.inside ≡ true
   pub writes : is_write call.op ≡ true
   pub covered : covers call.op block ≡ true
@@ -100,7 +100,7 @@ covered_at block (w ∷ ws) h = by_head (stores_at block w) refl h (covered_at b
     by_head : (t : Bool) → stores_at block w ≡ t → (t || is_covered block ws) ≡ true
         → (is_covered block ws ≡ true → StoresAt block ws) → StoresAt block (w ∷ ws)
     by_head true e h go = record {
-      place = 0;
+      index = 0;
       call = w;
       at = refl;
       inside = (and_parts w.inside (is_write w.op) (and_parts (w.inside && is_write w.op) (covers w.op block) e).0).0;
@@ -111,7 +111,7 @@ covered_at block (w ∷ ws) h = by_head (stores_at block w) refl h (covered_at b
       where
         further : StoresAt block ws → StoresAt block (w ∷ ws)
         further s = record
-            { place = suc s.place; call = s.call; at = s.at; inside = s.inside; writes = s.writes; covered = s.covered }
+            { index = suc s.index; call = s.call; at = s.at; inside = s.inside; writes = s.writes; covered = s.covered }
 
 pub agreed_at : (block : ℕ) (words : List ℕ) (ws : List Watched) → is_agreed block words ws ≡ true
     → (k : ℕ) (w : Watched) → At ws k w → w.inside ≡ true → is_write w.op ≡ true → covers w.op block ≡ true
@@ -147,9 +147,9 @@ sets_same key value (Get k) h = absurd cc
 
 -- a Set of a key and value that is Inside
 pub record SetsAt (key value : ℕ) (ws : List Watched) : Type 0 where
-  pub place : ℕ
+  pub index : ℕ
   pub call : Watched
-  pub at : At ws place call
+  pub at : At ws index call
   pub inside : call.inside ≡ true
   pub sets : call.op ≡ Set key value
 
@@ -160,7 +160,7 @@ setting_at key value (w ∷ ws) h = by_head (w.inside && sets key value w.op) re
     by_head : (t : Bool) → (w.inside && sets key value w.op) ≡ t → (t || is_setting key value ws) ≡ true
         → (is_setting key value ws ≡ true → SetsAt key value ws) → SetsAt key value (w ∷ ws)
     by_head true e h go = record {
-      place = 0;
+      index = 0;
       call = w;
       at = refl;
       inside = (and_parts w.inside (sets key value w.op) e).0;
@@ -169,4 +169,4 @@ setting_at key value (w ∷ ws) h = by_head (w.inside && sets key value w.op) re
     by_head false e h go = further (go h)
       where
         further : SetsAt key value ws → SetsAt key value (w ∷ ws)
-        further s = record { place = suc s.place; call = s.call; at = s.at; inside = s.inside; sets = s.sets }
+        further s = record { index = suc s.index; call = s.call; at = s.at; inside = s.inside; sets = s.sets }

@@ -2,7 +2,7 @@ use Rattle.std.proofs.Common.{◌≡◌, ℕ, zero, suc, ◌+◌, ◌-◌, ◌<�
 use Rattle.std.proofs.lemmas.List.{length-take-le, get_or_append_left, get_or-append_right, length-replicate}
 use Rattle.machine_defs.specs.Pages.{with_words, padded_words}
 
--- Words of memory: what a change of a run of them leaves.
+-- Words of memory: what remains when a range of them changes.
 
 -- two lists agree on a range
 pub same_range : (xs ys : List ℕ) (from to : ℕ) → length xs ≡ length ys
@@ -51,7 +51,7 @@ with_words_above start words memory i h above =
     ∙ get_or-drop (start + length words) memory (i - start - length words) 0
     ∙ ap (λ (k : ℕ). slice_index memory k) e
 
--- the words that were put there
+-- the words that were written
 pub with_words_there : (start : ℕ) (words memory : List ℕ) (to : ℕ) → start ≤ length memory → to ≡ start + length words
     → slice_range (with_words start words memory) start to ≡ words
 with_words_there start words memory to h e =

@@ -15,17 +15,17 @@ use Rattle.nook_data.specs.declared.steps.Stage.TheVariants as stages
 use Rattle.promise_defs.specs.Blocks.{has_block}
 use Rattle.part_laws.specs.Watch.{Watch, Watched, first_watch, sees}
 use Rattle.part_laws.specs.Counts.{counted_losses}
-use Rattle.nook_data.specs.Places.{at_number}
+use Rattle.nook_data.specs.Numbered.{at_number}
 use Rattle.part_defs.specs.Runs.{state_after, step_of}
 use Rattle.part_defs.specs.State.{PartState}
 use Rattle.part_defs.specs.Steps.{opening}
 use Rattle.promise_defs.specs.Licence.{is_balanced, is_stage, same_stage, shadow_stage}
 use Rattle.nook_data.specs.Frames.{is_empty}
 
--- The licence of losses and busy answers by the fold of the contract: what is proved first. Over a run it is the
+-- Which losses and busy answers are licensed, by the fold of the contract. This is proved first; over a run it is the
 -- licence that nook_defs defines.
 
--- ---- where the shadow answers
+-- ---- when the shadow answers
 
 -- the stage of a recovery
 abbrev pub recovery_stage : Mode → Option Stage
@@ -34,7 +34,7 @@ recovery_stage m = None
 
 -- ---- one answer
 
--- Done of a call whose frame was sent, or of which all samples were played
+-- a call that may be answered Done: its frame was sent, or all its samples were played
 abbrev pub is_served : Op → Watched → Bool
 is_served (Send frame) c = nat_lt 0 c.sent
 is_served (Play samples) c = c.played == length samples
@@ -49,8 +49,8 @@ abbrev pub has_failed : ℕ → Option Watched → Bool
 has_failed block None = false
 has_failed block (Some c) = has_block block c.failed
 
--- an answer of a call: `shadow` is the current stage where the shadow answers, `queue` is the kernel's queue, and `w`
--- is what the monitor knows after the event
+-- whether an answer is licensed: `shadow` is the current stage if the shadow answers, `queue` is the kernel's queue,
+-- and `w` is what the monitor knows after the event
 abbrev pub allows : Option Stage → List (List ℕ) → Watch → ℕ → Answer → Bool
 allows shadow queue w call answered.Done = is_some shadow || is_served_found (at_number call w.calls)
 allows shadow queue w call (answered.Busy s) = is_stage shadow s
@@ -76,16 +76,16 @@ allows_event shadow queue w (event.Burst context call burst count end acts a fai
 allows_event shadow queue w (event.Stage s answers released) = allows_each shadow queue w answers
 allows_event shadow queue w (event.Arrive frame kept) = true
 
--- an event of a part in this state, with what the monitor knows after it
+-- whether an event of a part in this state is licensed; the monitor knows `w` after it
 abbrev pub licenses : PartState → Watch → Event → Bool
 licenses p w e = allows_event (shadow_stage p.mode e) p.queue w e
 
--- events of a part in this state, after which the monitor knows `w`
+-- the same of consecutive events of a part in this state; the monitor knows `w` before them
 unfoldable pub licensed_from : PartState → Watch → List Event → Bool
 licensed_from p w [] = true
 licensed_from p w (e ∷ events) = licenses p (sees w e) e && licensed_from (state_after p (step_of e)) (sees w e) events
 
--- a journal of a part
+-- the same of a journal of a part
 unfoldable pub licensed : PartSpec → List Event → Bool
 licensed spec events =
     licensed_from (opening spec) (first_watch spec.class spec.blocks) events && is_balanced (counted_losses events)

@@ -4,11 +4,11 @@ use Rattle.nook_data.specs.declared.steps.Stage.TheVariants as stage
 use Rattle.part_laws.specs.Counts.{Counts}
 use Rattle.part_laws.specs.Views.{View, Past, stage_of}
 
--- Where the frames that arrived are: each was lost, or is in the ring, or was popped or cleared; and each of these is
--- in the queue or was received from it, or was refused by it, or is in the driver's hands, or was lost at a Reset.
+-- Where the frames that arrived are. Each was lost, is in the ring, or was popped or cleared. Of the last two, each is
+-- in the queue, was received from it, was refused by it, is in the driver, or was lost at a Reset.
 
 -- the counts of frames
-pub record Tally : Type 0 where
+pub record FrameCounts : Type 0 where
   pub arrived : ℕ
   pub received : ℕ
   pub taken : ℕ
@@ -21,9 +21,9 @@ pub record Tally : Type 0 where
   pub handed_since : ℕ
   pub reset : ℕ
 
--- those of all counts
-abbrev pub tally : Counts → Tally
-tally n = record {
+-- the counts of frames among all counts
+abbrev pub frame_counts : Counts → FrameCounts
+frame_counts n = record {
   arrived = n.arrived;
   received = n.received;
   taken = n.taken;
@@ -37,19 +37,19 @@ tally n = record {
   reset = n.reset;
 }
 
--- how many frames a driver holds: between Reset and Load none, since the Reset counted them as lost
+-- how many frames a driver holds: none between Reset and Load, because the Reset counted them as lost
 abbrev pub held_at : Option Stage → List (List ℕ) → ℕ
 held_at (Some stage.Load) rest = 0
 held_at s rest = length rest
 
--- the counts, with so many frames in the ring, in the queue and in the driver's hands
-pub record Balance (ring queue held : ℕ) (t : Tally) : Type 0 where
+-- the counts balance with these numbers of frames in the ring, in the queue and in the driver
+pub record Balance (ring queue held : ℕ) (t : FrameCounts) : Type 0 where
   pub arrived : t.arrived ≡ t.kept + t.lost
   pub kept : t.kept ≡ t.popped + t.cleared + ring
   pub taken : t.taken ≡ t.received + queue
   pub driver : t.popped_since ≡ t.handed_since + held
   pub flow : t.popped + t.cleared ≡ t.taken + t.refused + held + t.reset
 
--- the counts, beside a part's view and past
+-- the counts balance for a part's view and past
 abbrev pub Balanced : View → Past → Counts → Type 0
-Balanced v b n = Balance (length v.dev.ring) (length v.queue) (held_at (stage_of v.mode) b.rest) (tally n)
+Balanced v b n = Balance (length v.dev.ring) (length v.queue) (held_at (stage_of v.mode) b.rest) (frame_counts n)

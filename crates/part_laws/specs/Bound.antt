@@ -9,7 +9,7 @@ use Rattle.part_defs.specs.Domain.{attempt_bursts}
 use Rattle.part_defs.specs.Runs.{state_of}
 use Rattle.part_defs.specs.Steps.{enabled}
 
--- How many events a run may have, and what it counts.
+-- How many events a run may have, and what the bound counts.
 
 abbrev pub is_invoke : Event → Bool
 is_invoke (event.Invoke call thread o answer) = true
@@ -47,13 +47,13 @@ failures_of journal = count_by carries_failure journal
 abbrev pub arrivals_of : List Event → ℕ
 arrivals_of journal = count_by is_arrival journal
 
--- a call has its invocation and one last attempt, an entry and 32 bursts. The boot and each failure have five stages,
--- the shadow's six calls, and one cut attempt for each thread
+-- a call has its invocation and one last attempt: an entry and 32 bursts. The boot and each failure have five stages,
+-- the shadow's six calls, and one interrupted attempt for each thread
 abbrev pub most_events : List Event → ℕ
 most_events journal =
     calls_of journal * 34 + (failures_of journal + 1) * (5 + (6 + threads_of journal) * 33) + arrivals_of journal
 
--- the attempt that an event begins, 0 where it begins none
+-- the attempt that an event begins, 0 if it begins none
 abbrev pub attempt_of : Event → ℕ
 attempt_of (event.Enter call thread attempt answer) = attempt
 attempt_of _ = 0
@@ -65,7 +65,7 @@ is_burst _ = false
 abbrev pub bursts_of_journal : List Event → ℕ
 bursts_of_journal journal = count_by is_burst journal
 
--- the part that a journal ends in has its counts, and they stay small
+-- the part after a journal has the counts of the journal, and they stay small
 pub record IsMeasured (spec : PartSpec) (journal : List Event) : Type 0 where
   pub spec_stays : (state_of spec journal).spec ≡ spec
   pub failures : (state_of spec journal).failures ≡ failures_of journal

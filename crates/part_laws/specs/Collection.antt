@@ -10,13 +10,13 @@ use Rattle.part_defs.specs.State.{PartState}
 use Rattle.part_defs.specs.Steps.{opening}
 use Rattle.part_laws.specs.Fit.{IsOrdered}
 
--- Collect releases everything but the registration, and tells it in order.
+-- Collect releases everything but the registration, and reports it in order.
 
--- the entries stood in Collect's order; those before the registration are released, and it alone is left
+-- the entries were in Collect's order; those before the registration are released, and only it is left
 pub record IsCollection (before released after : List Entry) : Type 0 where
   pub in_order : IsOrdered before
   pub live : Bool
-  pub told : before ≡ released ++ entry.Registration live ∷ []
+  pub reported : before ≡ released ++ entry.Registration live ∷ []
   pub left : after ≡ entry.Registration live ∷ []
 
 abbrev pub CollectsAt : PartState → Event → PartState → Type 0

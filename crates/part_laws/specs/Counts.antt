@@ -13,22 +13,22 @@ use Rattle.nook_data.specs.declared.calls.Op.{Op}
 use Rattle.nook_data.specs.declared.calls.Op.TheVariants.{Send, Play}
 use Rattle.nook_data.specs.declared.steps.Stage.{Stage}
 use Rattle.nook_data.specs.declared.steps.Stage.TheVariants as stages
-use Rattle.nook_data.specs.Places.{at_number, change_number}
+use Rattle.nook_data.specs.Numbered.{at_number, change_number}
 use Rattle.promise_defs.specs.Losses.{handed_result, one_if}
 
--- What was lost, and where frames went, as one fold with every call that was made at the place of its number: what the
--- balance of frames is proved by. Over a run it gives the losses that nook_defs defines.
+-- What was lost, and where frames went: one fold that keeps all calls in the order of their numbers. The proof of the
+-- balance of frames uses it. Over a run it gives the losses that nook_defs defines.
 
--- a call: how many frames were sent and how many samples were played in its bursts, and whether it was answered
+-- a call: how many frames and samples its bursts sent and played, and whether it was answered
 pub record Counted : Type 0 where
   pub op : Op
   pub sent : ℕ
   pub played : ℕ
   pub answered : Bool
 
--- the counts: Sends that were answered Done with no frame sent, samples that were not played, answers Busy; frames
--- that arrived, that were answered, that the queue took and that it did not; frames that the ring took and that it did
--- not, that were popped, and that a Reset cleared; popped and handed up since the last Reset; and what Resets lost
+-- the counts: Sends answered Done without a frame sent, samples not played, answers Busy; frames that arrived, that
+-- were received, that the queue took and refused; frames that the ring took, that it did not take, that were popped,
+-- and that a Reset cleared; frames popped and handed up since the last Reset; and frames that Resets lost
 pub record Counts : Type 0 where
   pub calls : List Counted
   pub sends : ℕ
@@ -79,12 +79,12 @@ count_answered c = record c { answered = true }
 
 -- ---- answers
 
--- a first answer Done of a Send in which no frame was sent
+-- 1 at the first answer Done of a Send if no frame was sent
 abbrev pub lost_sends : Op → ℕ → ℕ
 lost_sends (Send frame) sent = if sent == 0 then 1 else 0
 lost_sends o sent = 0
 
--- at a first answer Done of a Play, the samples that were not played
+-- the samples that were not played, at the first answer Done of a Play
 abbrev pub lost_samples : Op → ℕ → ℕ
 lost_samples (Play samples) played = length samples - played
 lost_samples o played = 0
@@ -138,7 +138,7 @@ abbrev pub count_acts : ℕ → List Act → Counts → Counts
 count_acts call [] n = n
 count_acts call (a ∷ acts) n = count_acts call acts (count_act call a n)
 
--- a frame was handed up, and the queue took it exactly where the result is not 0
+-- a frame was handed up; the queue took it exactly if the result is not 0
 abbrev pub count_handed : Option ℕ → Counts → Counts
 count_handed None n = n
 count_handed (Some result) n = record n {
@@ -149,7 +149,7 @@ count_handed (Some result) n = record n {
 
 -- ---- stages
 
--- frames in the ring, and frames that the driver popped and did not hand up
+-- frames in the ring, and frames that the driver popped but did not hand up
 abbrev pub in_ring : Counts → ℕ
 in_ring n = n.kept - n.popped - n.cleared
 
@@ -172,9 +172,9 @@ count_event n (event.Stage stage answers released) = count_answers answers (coun
 count_event n (event.Arrive frame kept) = record n
     { arrived = suc n.arrived; kept = n.kept + one_if kept; lost = n.lost + one_if (not kept) }
 
--- the numbers that are told
-abbrev pub told : Counts → Losses
-told n = record {
+-- the losses that are reported
+abbrev pub reported : Counts → Losses
+reported n = record {
   sends = n.sends;
   samples = n.samples;
   busy = n.busy;
@@ -190,4 +190,4 @@ told n = record {
 
 -- what was lost in a list of events, and where its frames went
 unfoldable pub counted_losses : List Event → Losses
-counted_losses events = told (fold count_event no_counts events)
+counted_losses events = reported (fold count_event no_counts events)

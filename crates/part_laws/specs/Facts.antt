@@ -13,16 +13,16 @@ use Rattle.nook_data.specs.Classes.{conflicts, covers, defaults_of, is_recv, is_
 use Rattle.nook_data.specs.Frames.{is_empty}
 use Rattle.part_laws.specs.Views.{View, Past, Core, Call, cores, open_from, stage_of}
 
--- What holds of a part beside its past, whatever the order of the steps, while its driver keeps the contract: one
--- record, which each step keeps.
+-- The facts that hold of a part and its past, in any order of the steps, while its driver keeps the contract. Each step
+-- keeps them.
 
--- the item at a place of a list
+-- the item at an index of a list
 abbrev pub At : {X : Type 0} → List X → ℕ → X → Type 0
-At xs place x = slice_get xs place ≡ Some x
+At xs index x = slice_get xs index ≡ Some x
 
 -- ---- calls
 
--- a call that has one attempt at most
+-- a call that has at most one attempt
 abbrev pub is_once : Op → Bool
 is_once (Read first count) = false
 is_once (Write first words) = false
@@ -34,8 +34,8 @@ is_once Close = false
 is_once (Get key) = true
 is_once (Set key value) = false
 
--- one call: an open one passed the static check; one that is Inside is open and was entered; and one that has one
--- attempt is Inside from its Enter to its end
+-- one call: if it is open, it passed the static check; if it is Inside, it is open and was entered; if it may have only
+-- one attempt, it is Inside from its Enter to its end
 pub record CallFacts (class : Class) (size : ℕ) (c : Core) : Type 0 where
   pub thread : c.thread < 16
   pub checked : c.waits ≡ true → static_check class size c.op ≡ None
@@ -43,7 +43,7 @@ pub record CallFacts (class : Class) (size : ℕ) (c : Core) : Type 0 where
   pub opened : c.inside ≡ true → c.waits ≡ true
   pub once : is_once c.op ≡ true → c.waits ≡ true → 0 < c.attempts → c.inside ≡ true
 
--- all calls: a thread has one open call, and no open call with a smaller number conflicts with one that was Inside
+-- all calls: a thread has at most one open call; one that was Inside conflicts with no open call of a smaller number
 pub record CallsFacts (class : Class) (size : ℕ) (cs : List Core) : Type 0 where
   pub each : (k : ℕ) (c : Core) → At cs k c → CallFacts class size c
   pub alone : (j k : ℕ) (c d : Core) → At cs j c → At cs k d → c.waits ≡ true → d.waits ≡ true
@@ -55,9 +55,9 @@ pub record CallsFacts (class : Class) (size : ℕ) (cs : List Core) : Type 0 whe
 
 -- an open Write that was Inside covers the block and has stored it
 pub record IsStored (cs : List Core) (n : ℕ) (held : List ℕ) : Type 0 where
-  pub place : ℕ
+  pub index : ℕ
   pub call : Core
-  pub at : At cs place call
+  pub at : At cs index call
   pub waits : call.waits ≡ true
   pub entered : 0 < call.attempts
   pub writes : is_write call.op ≡ true
@@ -65,8 +65,8 @@ pub record IsStored (cs : List Core) (n : ℕ) (held : List ℕ) : Type 0 where
   pub named : has_block n call.stored ≡ true
   pub words : held ≡ words_for call.op n
 
--- a block of the medium differs from the plain disk only where such a Write stored it, and a block that an open Write
--- stored has its words
+-- a block of the medium differs from the plain disk only if such a Write stored it; a block that an open Write stored
+-- has its words
 pub record DiskFacts (cs : List Core) (plain medium : List (List ℕ)) : Type 0 where
   pub size : length medium ≡ length plain
   pub blocks : (n : ℕ) → (slice_index_or medium n [] ≡ slice_index_or plain n [])
@@ -80,7 +80,7 @@ pub record DiskFacts (cs : List Core) (plain medium : List (List ℕ)) : Type 0 
 
 -- ---- the stream
 
--- the stream is free while an Open is Inside; the caller of a Play or Close that is Inside has it
+-- the stream is free while an Open is Inside; while a Play or Close is Inside, its caller has the stream
 abbrev pub HolderFits : Option ℕ → ℕ → Op → Type 0
 HolderFits holder thread Open = holder ≡ None
 HolderFits holder thread (Play samples) = holder ≡ Some thread
@@ -91,14 +91,14 @@ HolderFits holder thread o = Unit {0}
 
 -- a Set of the key and value that is Inside
 pub record IsSetting (cs : List Core) (key value : ℕ) : Type 0 where
-  pub place : ℕ
+  pub index : ℕ
   pub call : Core
-  pub at : At cs place call
+  pub at : At cs index call
   pub inside : call.inside ≡ true
   pub sets : call.op ≡ Set key value
 
--- a register at a stage: nothing is said up to Reset; then it is the default up to its own replay, and the record
--- behind it; while its replay is Inside it may have its value already
+-- a register at a stage: it may be anything up to Reset, is the default before its replay, and the record after it;
+-- during its replay it may already have the new value
 abbrev pub KeyAt : List ℕ → List ℕ → Bool → Stage → ℕ → ℕ → Type 0
 KeyAt config defaults driven stage.Stop key value = Unit {0}
 KeyAt config defaults driven stage.Collect key value = Unit {0}
@@ -112,33 +112,33 @@ KeyAt config defaults driven (stage.ReplaySet k v) key value =
 KeyAt config defaults driven stage.ReplayOpen key value = value ≡ slice_index config key
 KeyAt config defaults driven stage.Resume key value = value ≡ slice_index config key
 
--- in Running a register is the record, or a Set that is Inside has given it its value already
+-- in Running a register is the record, or already has the value of a Set that is Inside
 abbrev pub KeyIn : List Core → List ℕ → List ℕ → Bool → Mode → ℕ → ℕ → Type 0
 KeyIn cs config defaults driven (mode.Boot s) key value = KeyAt config defaults driven s key value
 KeyIn cs config defaults driven mode.Running key value = (value ≡ slice_index config key) ⊎ IsSetting cs key value
 KeyIn cs config defaults driven (mode.Recovering s) key value = KeyAt config defaults driven s key value
 KeyIn cs config defaults driven (mode.Dead collected) key value = Unit {0}
 
--- a ReplaySet has the record's value
+-- a ReplaySet has the value of the record
 abbrev pub ReplayFits : List ℕ → Option Stage → Type 0
 ReplayFits config (Some (stage.ReplaySet key value)) = (key < 4) × (slice_index config key ≡ value)
 ReplayFits config s = Unit {0}
 
--- while a part boots nothing was acknowledged yet
+-- while a part boots, nothing has been acknowledged yet
 abbrev pub BootFits : List ℕ → List ℕ → Mode → Type 0
 BootFits config defaults (mode.Boot s) = config ≡ defaults
 BootFits config defaults m = Unit {0}
 
 -- ---- frames
 
--- the first frames are among the second, in their order
+-- the first frames are among the second, in the same order
 abbrev pub Sub : List (List ℕ) → List (List ℕ) → Type 0
 Sub xs [] = xs ≡ []
 Sub xs (y ∷ ys) = Sub xs ys ⊎ ((more : List (List ℕ)) × (xs ≡ y ∷ more) × Sub more ys)
 
 -- ---- stages
 
--- calls are Inside while the driver runs, and behind its failure up to Stop
+-- calls are Inside while the driver runs, and after its failure until Stop
 abbrev pub may_be_inside : Mode → Bool
 may_be_inside mode.Running = true
 may_be_inside (mode.Recovering stage.Stop) = true
@@ -151,7 +151,7 @@ is_driving (Some (stage.ReplaySet key value)) = true
 is_driving (Some stage.ReplayOpen) = true
 is_driving s = false
 
--- the part is given up
+-- the part was given up
 abbrev pub is_dead : Mode → Bool
 is_dead (mode.Dead collected) = true
 is_dead m = false

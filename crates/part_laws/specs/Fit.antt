@@ -14,14 +14,14 @@ use Rattle.machine_defs.specs.Entries.{comes_before, is_registration}
 use Rattle.promise_defs.specs.Isolation.{object_of, kernel_object}
 use Rattle.part_defs.specs.State.{DomainState, CallLog, PartState}
 
--- What every part keeps at every step.
+-- The invariant of parts, which every step keeps.
 
 -- the image of a part fits its memory
 pub record IsFitSpec (spec : PartSpec) : Type 0 where
   pub text : length spec.image.text ≤ TEXT_WORDS
   pub initial : length spec.image.initial ≤ DATA_WORDS
 
--- what the driver holds lies in the heap, which begins at `heap`, and is of a kernel object or a context
+-- an entry lies in the heap, which begins at `heap`, and belongs to a kernel object or a context
 abbrev pub IsFitEntry : ℕ → Entry → Type 0
 IsFitEntry heap (entry.Heap start len) = (heap ≤ start) × (start + len ≤ DATA_END)
 IsFitEntry heap (entry.Borrow object start) =
@@ -29,7 +29,7 @@ IsFitEntry heap (entry.Borrow object start) =
 IsFitEntry heap (entry.Buffer context writable) = context ≤ SHADOW
 IsFitEntry heap (entry.Registration live) = Unit {0}
 
--- the entries stand in Collect's order, the one registration last
+-- the entries are in Collect's order, with the single registration last
 abbrev pub IsOrdered : List Entry → Type 0
 IsOrdered [] = ⊥
 IsOrdered (e ∷ []) = is_registration e ≡ true
@@ -41,7 +41,7 @@ pub record IsFitDomain (heap : ℕ) (d : DomainState) : Type 0 where
   pub entries : AllByRecursion (IsFitEntry heap) d.entries
   pub ordered : IsOrdered d.entries
 
--- an open call is of one of 16 threads, and its operation passed the static check
+-- an open call belongs to one of 16 threads, and its operation passed the static check
 pub record IsFitCall (class : Class) (blocks : ℕ) (c : CallEntry) : Type 0 where
   pub thread : c.thread < MOST_THREADS
   pub checked : static_check class blocks c.op ≡ None
@@ -51,9 +51,9 @@ pub record IsFitLog (class : Class) (blocks : ℕ) (log : CallLog) : Type 0 wher
   pub defaults : log.defaults ≡ defaults_of class
   pub calls : AllByRecursion (IsFitCall class blocks) log.pending
 
--- what every part keeps at every step; object 0 is the record, the count of failures, and zeros
+-- the invariant of parts; object 0 is the record, the count of failures, and zeros
 pub record IsFit (p : PartState) : Type 0 where
   pub spec : IsFitSpec p.spec
   pub domain : IsFitDomain (heap_start p) p.domain
   pub log : IsFitLog p.spec.class p.spec.blocks p.log
-  pub told : object_of 0 p ≡ kernel_object p
+  pub reported : object_of 0 p ≡ kernel_object p

@@ -11,18 +11,18 @@ use Rattle.part_defs.specs.Log.{call_of_thread}
 use Rattle.part_defs.specs.State.{PartState}
 use Rattle.part_defs.specs.Steps.{is_inside}
 
--- Whose buffers are lent.
+-- Which contexts have a buffer on loan.
 
 -- no context's buffer is lent
 abbrev pub IsWithoutLoans : List Entry → Type 0
 IsWithoutLoans entries = (context : ℕ) → list_any (is_buffer_of context) entries ≡ false
 
--- a lent buffer is that of a thread whose call is Inside
+-- each lent buffer belongs to a thread whose call is Inside
 abbrev pub AreForInside : List CallEntry → List Entry → Type 0
 AreForInside pending entries =
     (context : ℕ) → list_any (is_buffer_of context) entries ≡ true → is_inside (call_of_thread context pending) ≡ true
 
--- the stages before Collect is done, in which loans of ended calls still stand
+-- the stages until Collect is done, in which ended calls may still have a buffer
 abbrev pub is_unsettled : Stage → Bool
 is_unsettled stage.Stop = true
 is_unsettled stage.Collect = true
@@ -34,6 +34,6 @@ AreLoansIn mode.Running pending entries = AreForInside pending entries
 AreLoansIn (mode.Recovering s) pending entries = is_unsettled s ≡ false → IsWithoutLoans entries
 AreLoansIn (mode.Dead collected) pending entries = Unit {0}
 
--- while the driver runs, only calls that are Inside have a buffer; from Collect on until it runs again, none has
+-- while the driver runs, only calls that are Inside have a buffer; after Collect, no call has one until it runs again
 abbrev pub HasLoans : PartState → Type 0
 HasLoans p = AreLoansIn p.mode p.log.pending p.domain.entries

@@ -4,17 +4,17 @@ use Rattle.part_defs.specs.Log.{is_held}
 use Rattle.nook_data.specs.declared.calls.Op.{Op}
 use Rattle.part_laws.specs.Views.{Core, Call}
 
--- What a step makes of a call.
+-- What a step does to a call.
 
 -- the core of a call changes
 abbrev pub with_core : (Core → Core) → Call → Call
 with_core f c = record c { core = f c.core }
 
--- a call as it is made: open, or answered at once
+-- a new call: open, or answered at once
 abbrev pub new_core : ℕ → Op → Bool → Core
 new_core thread o waits = record { thread = thread; op = o; waits = waits; inside = false; attempts = 0; stored = [] }
 
--- the same, with nothing done in its bursts
+-- the same, with nothing done yet in its bursts
 abbrev pub made_call : ℕ → Op → Bool → Call
 made_call thread o waits = record { core = new_core thread o waits; sent = 0; played = 0; handed = false; failed = [] }
 
@@ -26,7 +26,7 @@ enter_core inside c = record c { waits = inside; inside = inside; attempts = c.a
 abbrev pub enter_call : Bool → Call → Call
 enter_call inside c = record c { core = enter_core inside c.core; handed = false; failed = [] }
 
--- a call is open no more
+-- a call is no longer open
 abbrev pub close_core : Core → Core
 close_core c = record c { waits = false; inside = false }
 

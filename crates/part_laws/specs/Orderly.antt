@@ -11,24 +11,24 @@ use Rattle.nook_data.specs.declared.steps.Stage.{Stage}
 use Rattle.nook_data.specs.declared.steps.Stage.TheVariants as stage
 use Rattle.nook_data.specs.Answers.{answers_of}
 
--- What every run keeps to: calls are numbered in the order in which they are made, an event speaks of a call that is
--- open, and a call is answered once. Each call so far has a flag, at the place of its number: whether it is open.
+-- What holds of every run: calls are numbered in the order in which they are made, an event concerns a call that is
+-- open, and a call is answered once. A list has a flag for each call, by number: whether it is open.
 
--- the call with the number is open; the first flag is that of the number `first`
+-- the call with the number is open; the first flag is that of the call `first`
 abbrev pub is_open : ℕ → ℕ → List Bool → Bool
 is_open number first [] = false
 is_open number first (o ∷ flags) = if first == number then o else is_open number (suc first) flags
 
 -- the call with the number is among those that were answered
-abbrev pub is_told : List (ℕ × Answer) → ℕ → Bool
-is_told answers number = list_any (λ a. a.0 == number) answers
+abbrev pub is_reported : List (ℕ × Answer) → ℕ → Bool
+is_reported answers number = list_any (λ a. a.0 == number) answers
 
 -- the flags after these answers
 abbrev pub kept_from : ℕ → List (ℕ × Answer) → List Bool → List Bool
 kept_from first answers [] = []
-kept_from first answers (o ∷ flags) = (o && not (is_told answers first)) ∷ kept_from (suc first) answers flags
+kept_from first answers (o ∷ flags) = (o && not (is_reported answers first)) ∷ kept_from (suc first) answers flags
 
--- the flags with that of the call that an event makes
+-- the flags, with one added if the event makes a call
 abbrev pub flags_during : List Bool → Event → List Bool
 flags_during flags (event.Invoke call thread o a) = flags ++ true ∷ []
 flags_during flags e = flags
@@ -37,16 +37,16 @@ flags_during flags e = flags
 abbrev pub flags_after : List Bool → Event → List Bool
 flags_after flags e = kept_from 1 (answers_of e) (flags_during flags e)
 
--- each answer is that of an open call, and no other is
+-- each answer is to an open call, and no two are to the same call
 abbrev pub AreOwn : List Bool → List (ℕ × Answer) → Type 0
 AreOwn flags [] = Unit {0}
-AreOwn flags (a ∷ answers) = (is_open a.0 1 flags ≡ true) × (is_told answers a.0 ≡ false) × AreOwn flags answers
+AreOwn flags (a ∷ answers) = (is_open a.0 1 flags ≡ true) × (is_reported answers a.0 ≡ false) × AreOwn flags answers
 
--- a burst is one of the shadow's own call, or of an open one
+-- a burst is for the shadow's own call, or for an open one
 abbrev pub IsOfCall : ℕ → List Bool → Type 0
 IsOfCall call flags = (call ≡ 0) ⊎ (is_open call 1 flags ≡ true)
 
--- an answer comes only with a reply, and neither an answer nor a service that was served comes with a failure
+-- an answer comes only with a reply; an answer or a served service never comes with a failure
 abbrev pub IsCrossing : End → Option Answer → Option FailCause → Type 0
 IsCrossing (end.Reply status) (Some a) (Some cause) = ⊥
 IsCrossing (end.Reply status) a failure = Unit {0}
@@ -54,7 +54,7 @@ IsCrossing e (Some a) failure = ⊥
 IsCrossing (end.Service number first second (Some result) moved) None (Some cause) = ⊥
 IsCrossing e None failure = Unit {0}
 
--- the answers of a stage: only Stop has any
+-- only Stop answers calls
 abbrev pub IsAnswering : Stage → List (ℕ × Answer) → Type 0
 IsAnswering stage.Stop answers = Unit {0}
 IsAnswering s answers = answers ≡ []
@@ -69,7 +69,7 @@ IsFitting flags (event.Burst context call burst count e acts a failure) =
 IsFitting flags (event.Stage s answers released) = IsAnswering s answers × AreOwn flags answers
 IsFitting flags (event.Arrive frame kept) = Unit {0}
 
--- events that follow are orderly
+-- consecutive events are orderly
 abbrev pub IsOrderlyFrom : List Bool → List Event → Type 0
 IsOrderlyFrom flags [] = Unit {0}
 IsOrderlyFrom flags (e ∷ events) = IsFitting flags e × IsOrderlyFrom (flags_after flags e) events

@@ -5,7 +5,7 @@ use Rattle.part_defs.specs.Runs.{next_any}
 use Rattle.part_defs.specs.State.{PartState}
 use Rattle.part_defs.specs.Steps.{enabled}
 
--- Nothing more happens in a part but what comes from outside: an invocation or a frame.
+-- When only an invocation or a frame from outside can still happen in a part.
 
 -- no call is open, and no stage, entry or burst may be taken
 pub record IsStill (p : PartState) : Type 0 where
@@ -14,7 +14,7 @@ pub record IsStill (p : PartState) : Type 0 where
   pub enter : (thread : ℕ) → enabled p (step.Enter thread) ≡ false
   pub burst : (context : ℕ) → enabled p (step.Burst context) ≡ false
 
--- the next step, where there is one, may be taken; where there is none, the part is still
+-- the next step may be taken, if there is one; if there is none, the part is still
 pub record HasProgress (p : PartState) : Type 0 where
   pub enabled : (s : Step) → next_any p ≡ Some s → enabled p s ≡ true
   pub still : next_any p ≡ None → IsStill p

@@ -21,15 +21,15 @@ use Rattle.part_laws.specs.Balance.{Balanced}
 use Rattle.part_laws.specs.Facts.{Facts, is_dead}
 use Rattle.part_laws.specs.Views.{Past, view_of, watch_of, ideal_of, tracks_of}
 
--- Recovery is transparent: what is said of a part that kept its class's contract and was not given up.
+-- Recovery is transparent: what holds of a part that kept its class contract and was not given up.
 
--- a journal that is a run of a part, in which its driver kept the contract, and which does not end given up
+-- a journal that is a run of a part whose driver kept the contract, and that does not end given up
 pub record IsKeptRun (spec : PartSpec) (journal : List Event) : Type 0 where
   pub run : IsRun spec journal
   pub contract : first_break spec.class spec.blocks journal ≡ None
   pub alive : is_dead (state_of spec journal).mode ≡ false
 
--- the never-failing device is in this state behind the journal's trace
+-- the never-failing device is in this state after the journal's trace
 abbrev pub ShowsDevice : PartSpec → List Event → Ideal → Type 0
 ShowsDevice spec journal device = ran (never_failing spec.class spec.blocks) (trace journal) ≡ Some device
 
@@ -49,20 +49,20 @@ is_set_inside c = c.inside && is_set c.op
 abbrev pub has_set_inside : PartState → Bool
 has_set_inside p = list_any is_set_inside p.log.pending
 
--- what of a part is the never-failing device's: the record is the configuration, and the holder the stream's; where no
--- Write is open the medium is the plain disk's blocks; and in Running, with no Set Inside, the registers are the record
+-- what a part shares with the device: the record is the configuration, and the holder that of the stream; if no Write
+-- is open, the medium is the plain disk's blocks; in Running, with no Set Inside, the registers are the record
 pub record Agrees (p : PartState) (device : Ideal) : Type 0 where
   pub config : p.log.config ≡ device.config
   pub holder : p.log.holder ≡ device.holder
   pub medium : has_write p ≡ false → medium_of p.domain.device ≡ device.blocks
   pub registers : p.mode ≡ mode.Running → has_set_inside p ≡ false → p.domain.device.registers ≡ device.config
 
--- given up, with nothing that runs
+-- given up, and nothing runs
 abbrev pub Gone : PartState → Type 0
 Gone p = (is_dead p.mode ≡ true) × (is_driven p ≡ false)
 
--- what a step keeps: the facts, beside what the monitor then knows, what the trace then keeps of the calls, the state
--- in which the never-failing device then is, the licence of the step's answers, and the balance of frames
+-- what a step keeps: the facts, and with them what the monitor knows, what the trace keeps of the calls, the state of
+-- the never-failing device, the licence of the step's answers, and the balance of frames
 pub record StepKeeps (p : PartState) (b : Past) (t : Stepped) : Type 0 where
   pub after : Past
   pub facts : Facts (view_of t.state) after
@@ -75,8 +75,8 @@ pub record StepKeeps (p : PartState) (b : Past) (t : Stepped) : Type 0 where
   pub licensed : licenses p (watch_of (view_of t.state) after) t.event ≡ true
   pub counted : (n : Counts) → Balanced (view_of p) b n → Balanced (view_of t.state) after (count_event n t.event)
 
--- the facts hold behind a journal, beside a past from which follow what the monitor knows, what the trace keeps of each
--- call, and where the trace leads the never-failing device
+-- the facts hold after a journal, of a past that determines what the monitor knows, what the trace keeps of each call,
+-- and which state the never-failing device is in
 pub record HasFacts (spec : PartSpec) (journal : List Event) : Type 0 where
   pub past : Past
   pub facts : Facts (view_of (state_of spec journal)) past

@@ -9,19 +9,19 @@ use Rattle.nook_data.specs.declared.machine.Context.{Context}
 use Rattle.part_defs.specs.Domain.{context_of}
 use Rattle.part_defs.specs.State.{PartState}
 
--- How a part's open calls, its contexts and its mode hang together.
+-- How a part's open calls, its contexts and its mode are related.
 
--- the open calls' numbers rise from above `low` up to the count of numbers given
+-- the numbers of the open calls increase, are above `low`, and are at most the count of numbers given
 abbrev pub IsRising : ℕ → ℕ → List CallEntry → Type 0
 IsRising low count [] = Unit {0}
 IsRising low count (c ∷ pending) = (low < c.call) × (c.call ≤ count) × IsRising c.call count pending
 
--- no two open calls are of one thread
+-- no two open calls belong to one thread
 abbrev pub AreApart : List CallEntry → Type 0
 AreApart [] = Unit {0}
 AreApart (c ∷ pending) = AllByRecursion (λ d. (d.thread == c.thread) ≡ false) pending × AreApart pending
 
--- a context that is Inside and has done fewer than 32 bursts of its attempt
+-- a context that is Inside and has done fewer than 32 bursts in its attempt
 abbrev pub GoesOn : Option Context → Type 0
 GoesOn None = ⊥
 GoesOn (Some x) = x.bursts ≤ 31
@@ -30,11 +30,11 @@ abbrev pub is_stop : Stage → Bool
 is_stop stage.Stop = true
 is_stop _ = false
 
--- while the driver is away an open call has at most one attempt for each failure, and is Held from Stop on
+-- while the driver does not run, an open call has at most one attempt for each failure, and is Held except at Stop
 abbrev pub IsAwayCall : Stage → ℕ → CallEntry → Type 0
 IsAwayCall s failures c = (c.attempts ≤ failures) × (is_stop s ≡ false → c.inside ≡ false)
 
--- while it runs, a call that is Inside has one attempt more, and its context
+-- while it runs, a call that is Inside may have one more attempt, and has its context
 abbrev pub IsRunningCall : ℕ → List (Option Context) → CallEntry → Type 0
 IsRunningCall failures contexts c =
     (c.attempts ≤ failures + 1) × (c.inside ≡ false → c.attempts ≤ failures)
@@ -76,14 +76,14 @@ IsFitMode mode.Running = Unit {0}
 IsFitMode (mode.Recovering s) = IsFitStage s
 IsFitMode (mode.Dead collected) = Unit {0}
 
--- the failures may be one more than the limit
+-- the modes in which failures may be one more than the limit
 abbrev pub may_exceed : Mode → Bool
 may_exceed (mode.Boot s) = is_stop s
 may_exceed mode.Running = false
 may_exceed (mode.Recovering s) = is_stop s
 may_exceed (mode.Dead collected) = true
 
--- how open calls, contexts and mode hang together at every step
+-- the relation between open calls, contexts and mode that holds at every step
 pub record IsTied (p : PartState) : Type 0 where
   pub rising : IsRising 0 p.log.count p.log.pending
   pub apart : AreApart p.log.pending

@@ -13,10 +13,10 @@ use Rattle.part_defs.specs.Steps.{is_driven}
 use Rattle.promise_defs.specs.Trace.{Track}
 use Rattle.part_laws.specs.ActsOn.{Dev, dev_of}
 
--- A part as recovery sees it, and what is known of its past beside: from the two follow what the monitor knows, the
--- state of the never-failing device, and what the trace keeps of each call.
+-- A part as recovery sees it, and what is known of its past. The two determine what the monitor knows, the state of the
+-- never-failing device, and what the trace keeps of each call.
 
--- what of a part the monitor and the applications can tell
+-- what the monitor and the applications can see of a part
 pub record View : Type 0 where
   pub class : Class
   pub size : ℕ
@@ -46,8 +46,8 @@ view_of p = record {
   driven = is_driven p;
 }
 
--- a call that was made: whether it is open, whether it is Inside, how often it was entered, and which of its blocks
--- were stored since
+-- a call: whether it is open, whether it is Inside, how often it was entered, and which of its blocks were stored
+-- since it was first entered
 pub record Core : Type 0 where
   pub thread : ℕ
   pub op : Op
@@ -56,8 +56,8 @@ pub record Core : Type 0 where
   pub attempts : ℕ
   pub stored : List ℕ
 
--- with what its bursts did: frames sent, samples played, and of its attempt whether a frame was handed up and which
--- blocks failed
+-- a call with what its bursts did: frames sent and samples played; and, in its attempt, whether a frame was handed up
+-- and which blocks failed
 pub record Call : Type 0 where
   pub core : Core
   pub sent : ℕ
@@ -65,8 +65,8 @@ pub record Call : Type 0 where
   pub handed : Bool
   pub failed : List ℕ
 
--- what is known beside the part: each call that was made, at the place of its number; the plain disk's blocks; the
--- frames that are pending on the link; and of the frames popped since the last Load, those handed up and the rest
+-- what is known in addition to the part: all calls in the order of their numbers; the plain disk's blocks; the frames
+-- that are pending on the link; and of the frames popped since the last Load, those handed up and the rest
 pub record Past : Type 0 where
   pub calls : List Call
   pub blocks : List (List ℕ)
@@ -78,7 +78,7 @@ pub record Past : Type 0 where
 abbrev pub core_of : Call → Core
 core_of c = c.core
 
--- every call's
+-- the same of every call
 abbrev pub cores : Past → List Core
 cores b = map core_of b.calls
 
@@ -89,12 +89,12 @@ abbrev pub entry_of : ℕ → Core → CallEntry
 entry_of number c =
     record { call = number; thread = c.thread; op = c.op; inside = c.inside; attempts = c.attempts }
 
--- a list with an entry before it, where its call is open
+-- a list, preceded by an entry if its call is open
 abbrev pub keep_waiting : Bool → CallEntry → List CallEntry → List CallEntry
 keep_waiting true e entries = e ∷ entries
 keep_waiting false e entries = entries
 
--- the open ones of calls that are numbered from a number on
+-- the open calls of a list whose first call has this number
 abbrev pub open_from : ℕ → List Core → List CallEntry
 open_from number [] = []
 open_from number (c ∷ cs) = keep_waiting c.waits (entry_of number c) (open_from (suc number) cs)

@@ -18,16 +18,16 @@ use Rattle.nook_data.specs.declared.steps.Stage.{Stage}
 use Rattle.nook_data.specs.declared.steps.Stage.TheVariants as stages
 use Rattle.promise_defs.specs.Blocks.{blank_blocks, get_blocks, has_block, holds_from, words_for}
 use Rattle.nook_data.specs.Classes.{covers, defaults_of, is_write, is_next, is_play, sends}
-use Rattle.nook_data.specs.Places.{at_number, change_number, number_where}
+use Rattle.nook_data.specs.Numbered.{at_number, change_number, number_where}
 use Rattle.promise_defs.specs.Contract.{is_front, is_replay_of, is_replayed, sets}
 use Rattle.nook_data.specs.Frames.{is_empty}
 
--- The contract of a class as one fold, with every call that was made at the place of its number: what the recovery
--- theorem is proved by. What has to be believed is the contract in nook_defs; over a run both break first at the same
--- event, by the same clause.
+-- The contract of a class as one fold that keeps all calls in the order of their numbers. The proof of the recovery
+-- theorem uses it. The contract to believe is the one in nook_defs; over a run both are first broken at the same event,
+-- by the same clause.
 
--- a call: whether it is Inside; how many frames were sent in its bursts and how many of its samples were played; and
--- of its attempt, whether a frame was handed up and on which blocks a command failed
+-- a call: whether it is Inside; how many frames its bursts sent, and how many of its samples were played; and, in its
+-- attempt, whether a frame was handed up, and on which blocks a command failed
 pub record Watched : Type 0 where
   pub op : Op
   pub inside : Bool
@@ -36,9 +36,9 @@ pub record Watched : Type 0 where
   pub handed : Bool
   pub failed : List ℕ
 
--- what a monitor knows after some events: the medium, the ring and the registers that they leave; the frames popped
--- and the frames handed up since the last Load; every call at the place of its number; the key and value of the
--- ReplaySet that is Inside; and the smallest clause that the events so far broke
+-- what a monitor knows after some events: the medium, the ring and the registers after them; the frames popped and the
+-- frames handed up since the last Load; all calls in the order of their numbers; the key and value of the ReplaySet
+-- that is Inside; and the smallest clause that the events so far broke
 pub record Watch : Type 0 where
   pub class : Class
   pub medium : List (List ℕ)
@@ -50,7 +50,7 @@ pub record Watch : Type 0 where
   pub replay : Option (ℕ × ℕ)
   pub clause : Option ℕ
 
--- what it knows at first, of a disk with so many blocks
+-- what it knows at first, of a disk with this number of blocks
 abbrev pub first_watch : Class → ℕ → Watch
 first_watch class size = record {
   class = class;
@@ -68,17 +68,17 @@ abbrev pub smaller_clause : ℕ → Option ℕ → ℕ
 smaller_clause clause None = clause
 smaller_clause clause (Some other) = min clause other
 
--- the smallest broken clause, where this one is kept exactly if the test holds
-abbrev pub wanted : Bool → ℕ → Option ℕ → Option ℕ
-wanted true clause broken = broken
-wanted false clause broken = Some (smaller_clause clause broken)
+-- the smallest broken clause; this clause is kept exactly if the test holds
+abbrev pub required : Bool → ℕ → Option ℕ → Option ℕ
+required true clause broken = broken
+required false clause broken = Some (smaller_clause clause broken)
 
 -- ---- calls
 
 abbrev pub watched : Op → Watched
 watched o = record { op = o; inside = false; sent = 0; played = 0; handed = false; failed = [] }
 
--- the call is entered; it is Inside where it got no answer
+-- the call is entered; it is Inside if it got no answer
 abbrev pub enters : Bool → Watched → Watched
 enters inside c = record c { inside = inside; handed = false; failed = [] }
 
@@ -152,21 +152,21 @@ sees_act call (act.Load block) w = w
 sees_act call (act.Failed block store) w = record w { calls = change_number (failed_at block) call w.calls }
 sees_act call (act.Store block words) w = record w {
   medium = slice_set w.medium block words;
-  clause = wanted (is_covered block w.calls) 1 (wanted (is_agreed block words w.calls) 2 w.clause);
+  clause = required (is_covered block w.calls) 1 (required (is_agreed block words w.calls) 2 w.clause);
 }
 sees_act call (act.Sent frame) w = record w {
   calls = change_number sent_once call w.calls;
-  clause = wanted (is_own_frame frame (at_number call w.calls)) 5
-      (wanted (is_first_frame (at_number call w.calls)) 6 w.clause);
+  clause = required (is_own_frame frame (at_number call w.calls)) 5
+      (required (is_first_frame (at_number call w.calls)) 6 w.clause);
 }
 sees_act call (act.Popped frame) w = record w { ring = drop 1 w.ring; popped = w.popped ++ frame ∷ [] }
 sees_act call (act.Played word rate volume) w = record w {
   calls = change_number played_one (number_where is_playing w.calls) w.calls;
-  clause = wanted (is_next_of word (at_number (number_where is_playing w.calls) w.calls)) 10 w.clause;
+  clause = required (is_next_of word (at_number (number_where is_playing w.calls) w.calls)) 10 w.clause;
 }
 sees_act call (act.Register key value) w = record w {
   registers = slice_set w.registers key value;
-  clause = wanted (may_register key value w) 12 w.clause;
+  clause = required (may_register key value w) 12 w.clause;
 }
 
 abbrev pub sees_acts : ℕ → List Act → Watch → Watch
@@ -175,18 +175,18 @@ sees_acts call (a ∷ acts) w = sees_acts call acts (sees_act call a w)
 
 -- ---- replies that are accepted
 
--- the smallest broken clause when a call's reply was accepted, with its answer
+-- the smallest broken clause after a call's reply is accepted with this answer
 abbrev pub owes : Watched → Op → Answer → Watch → Option ℕ
-owes c (Write first words) answered.Done w = wanted (holds_from 0 (Write first words) w.medium) 3 w.clause
+owes c (Write first words) answered.Done w = required (holds_from 0 (Write first words) w.medium) 3 w.clause
 owes c (Read first count) (answered.Blocks words) w =
-    wanted (bytes_eq words (get_blocks w.medium first count)) 4 w.clause
-owes c (Send frame) answered.Done w = wanted (nat_lt 0 c.sent) 7 w.clause
-owes c Recv a w = wanted (is_empty w.ring || c.handed) 9 w.clause
-owes c (Play samples) answered.Done w = wanted (c.played == length samples) 11 w.clause
-owes c (Set key value) answered.Done w = wanted (slice_index w.registers key == value) 13 w.clause
-owes c (Get key) (answered.Value word) w = wanted (slice_index w.registers key == word) 14 w.clause
-owes c (Read first count) (answered.IoError block) w = wanted (has_block block c.failed) 15 w.clause
-owes c (Write first words) (answered.IoError block) w = wanted (has_block block c.failed) 15 w.clause
+    required (bytes_eq words (get_blocks w.medium first count)) 4 w.clause
+owes c (Send frame) answered.Done w = required (nat_lt 0 c.sent) 7 w.clause
+owes c Recv a w = required (is_empty w.ring || c.handed) 9 w.clause
+owes c (Play samples) answered.Done w = required (c.played == length samples) 11 w.clause
+owes c (Set key value) answered.Done w = required (slice_index w.registers key == value) 13 w.clause
+owes c (Get key) (answered.Value word) w = required (slice_index w.registers key == word) 14 w.clause
+owes c (Read first count) (answered.IoError block) w = required (has_block block c.failed) 15 w.clause
+owes c (Write first words) (answered.IoError block) w = required (has_block block c.failed) 15 w.clause
 owes c o a w = w.clause
 
 abbrev pub owes_found : Option Watched → Answer → Watch → Option ℕ
@@ -197,7 +197,7 @@ owes_found (Some c) a w = owes c c.op a w
 abbrev pub sees_reply : ℕ → Option Answer → Watch → Watch
 sees_reply call (Some a) w = record w
     { calls = change_number leaves call w.calls; clause = owes_found (at_number call w.calls) a w }
-sees_reply call None w = record w { replay = None; clause = wanted (is_replayed w.replay w.registers) 13 w.clause }
+sees_reply call None w = record w { replay = None; clause = required (is_replayed w.replay w.registers) 13 w.clause }
 
 -- ---- the crossing of a burst
 
@@ -205,15 +205,15 @@ sees_reply call None w = record w { replay = None; clause = wanted (is_replayed 
 abbrev pub hands_up : ℕ → Option ℕ → Bool
 hands_up service result = (service == 6) && is_some result
 
--- a kernel call with the words that it moved
+-- a kernel call, with the words that it moved
 abbrev pub sees_service : Bool → ℕ → List ℕ → Watch → Watch
 sees_service up call moved w = record w {
   handed = if up then w.handed ++ moved ∷ [] else w.handed;
   calls = if up then change_number handed_one call w.calls else w.calls;
-  clause = wanted (not up || is_front (w.handed ++ moved ∷ []) w.popped) 8 w.clause;
+  clause = required (not up || is_front (w.handed ++ moved ∷ []) w.popped) 8 w.clause;
 }
 
--- a failure ends the ReplaySet; calls stay Inside up to the next Stop
+-- a failure ends the ReplaySet; calls stay Inside until the next Stop
 abbrev pub sees_crossing : ℕ → End → Option Answer → Option FailCause → Watch → Watch
 sees_crossing call end a (Some cause) w = record w { replay = None }
 sees_crossing call (ends.Service service first second result moved) a None w =
@@ -242,15 +242,15 @@ sees w (event.Arrive frame kept) = record w { ring = if kept then w.ring ++ fram
 
 -- ---- the first break
 
--- the break that an event is, or else that of the later ones
+-- the break of this event if it breaks a clause, otherwise that of the later ones
 abbrev pub break_at : Option ℕ → ℕ → Option Break → Option Break
-break_at None place later = later
-break_at (Some clause) place later = Some (record { event = place; clause = clause })
+break_at None number later = later
+break_at (Some clause) number later = Some (record { event = number; clause = clause })
 
--- the first break of events that follow, the first of them number `place`
+-- the first break of consecutive events, the first of which has the number `place`
 unfoldable pub break_from : ℕ → Watch → List Event → Option Break
-break_from place w [] = None
-break_from place w (e ∷ events) = break_at (sees w e).clause place (break_from (suc place) (sees w e) events)
+break_from number w [] = None
+break_from number w (e ∷ events) = break_at (sees w e).clause number (break_from (suc number) (sees w e) events)
 
 -- the first event that breaks a clause, with the smallest clause that it breaks
 unfoldable pub watched_break : Class → ℕ → List Event → Option Break

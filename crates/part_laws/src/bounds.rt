@@ -1,4 +1,4 @@
-//! Laws on how long runs are, and on how they go on.
+//! Laws on the length of runs, and on how they continue.
 
 ghost use Rattle.part_defs.specs.Runs.{IsRun, state_of};
 ghost use Rattle.part_defs.specs.State.{PartState};
@@ -12,42 +12,46 @@ ghost use Rattle.part_laws.specs.Progress.{HasProgress};
 ghost use Rattle.part_laws.specs.Tied.{IsTied};
 ghost use Rattle.std.specs.Prelude.{List, length, true, ◌+◌, ◌^◌, ◌<◌, ◌≡◌, ◌≤◌};
 
-/// Each step that may be taken keeps how open calls, contexts and mode hang together: numbers rise, threads have one
-/// open call each, a call that is Inside has its context with fewer than 32 bursts, attempts are at most one more than
-/// failures, and failures at most one more than the limit.
+/// Each step that may be taken keeps open calls, contexts and mode consistent: numbers increase, a thread has at most
+/// one open call, and a call that is Inside has its context, with fewer than 32 bursts. Attempts are at most one more
+/// than failures, and failures at most one more than the limit.
 pub fn each_step_is_tied()
-    ensures { (p : PartState) (s : Step) → IsFit p → IsTied p → enabled p s ≡ true → IsTied (stepped p s).state }
+    ensures { (p : PartState) (s : Step) → IsFit p → IsTied p → enabled p s ≡ true
+        → IsTied (stepped p s).state }
 {}
 
-/// So it is after every journal that is a run.
+/// The same holds after every journal that is a run.
 pub fn every_run_is_tied()
     ensures { (spec : PartSpec) (journal : List Event) → IsFitSpec spec → IsRun spec journal
         → IsTied (state_of spec journal) }
 {}
 
-/// A run has at most `calls * 34 + (failures + 1) * (5 + (6 + threads) * 33) + arrivals` events, where `threads` are
-/// the different threads that invoked: so every recovery ends, and no driver takes the processor for ever.
+/// A run has at most `calls * 34 + (failures + 1) * (5 + (6 + threads) * 33) + arrivals` events; `threads` is the
+/// number of threads that invoked. So every recovery ends, and no driver keeps the processor forever.
 pub fn every_run_is_bounded()
     ensures { (spec : PartSpec) (journal : List Event) → IsFitSpec spec → IsRun spec journal
         → length journal ≤ most_events journal }
 {}
 
-/// The counts of a part are those of its journal; failures are at most one more than the limit, attempts of a call
-/// at most one more than failures, and each burst is at most the 32nd of its attempt.
+/// The counts of a part are those of its journal. Failures are at most one more than the limit, and the attempts of a
+/// call at most one more than failures. Each burst is at most the 32nd of its attempt.
 pub fn every_run_is_measured()
-    ensures { (spec : PartSpec) (journal : List Event) → IsFitSpec spec → IsRun spec journal → IsMeasured spec journal }
+    ensures { (spec : PartSpec) (journal : List Event) → IsFitSpec spec → IsRun spec journal
+        → IsMeasured spec journal }
 {}
 
-/// With a limit of at most 16 no journal, and no number of bursts, reaches 2^23.
+/// With a limit of at most 16 a journal has fewer than 2^23 events, and a part does fewer than 2^23 bursts.
 pub fn every_run_is_small()
-    ensures events { (spec : PartSpec) (journal : List Event) → IsFitSpec spec → spec.limit ≤ 16 → IsRun spec journal
+    ensures events { (spec : PartSpec) (journal : List Event) → IsFitSpec spec → spec.limit ≤ 16
+        → IsRun spec journal
         → length journal < 2 ^ 23 }
-    ensures bursts { (spec : PartSpec) (journal : List Event) → IsFitSpec spec → spec.limit ≤ 16 → IsRun spec journal
+    ensures bursts { (spec : PartSpec) (journal : List Event) → IsFitSpec spec → spec.limit ≤ 16
+        → IsRun spec journal
         → (state_of spec journal).bursts < 2 ^ 23 }
 {}
 
-/// After every run the next step, where there is one, may be taken; where there is none no call is open, and nothing
-/// more happens but what comes from outside: an invocation or a frame.
+/// After every run the next step may be taken, if there is one. If there is none, no call is open, and only an
+/// invocation or a frame from outside can still happen.
 pub fn every_run_has_progress()
     ensures { (spec : PartSpec) (journal : List Event) → IsFitSpec spec → IsRun spec journal
         → HasProgress (state_of spec journal) }

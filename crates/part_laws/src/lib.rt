@@ -1,7 +1,7 @@
 //! The laws of parts: theorems over the definitions alone, for every part, every list of steps and every fault.
 //!
-//! Each law is the contract of a public function with an empty body: what it promises holds of all its arguments,
-//! whoever made them. Beside them stand, in the proofs, the facts that code which takes a part's steps cites.
+//! Each law is the contract of a public function with an empty body: it holds for all arguments, no matter who made
+//! them. The proofs also contain the facts that code cites when it takes a part's steps.
 #![tactic(auto)]
 
 pub mod bounds;

@@ -1,4 +1,4 @@
-//! Laws on whose buffers are lent.
+//! Laws on which calls have a buffer.
 
 ghost use Rattle.part_laws.specs.Loans.{HasLoans};
 ghost use Rattle.part_defs.specs.Runs.{IsRun, state_of};
@@ -11,14 +11,14 @@ ghost use Rattle.part_laws.specs.Fit.{IsFit, IsFitSpec};
 ghost use Rattle.part_laws.specs.Tied.{IsTied};
 ghost use Rattle.std.specs.Prelude.{List, true, ◌≡◌};
 
-/// Each step that may be taken keeps whose buffers are lent: while the driver runs only calls that are Inside have
-/// one, and from Collect on until it runs again none has.
+/// Each step that may be taken keeps this rule on loans: while the driver runs, only calls that are Inside have a
+/// buffer; after Collect no call has one until the driver runs again.
 pub fn each_step_keeps_loans()
     ensures { (p : PartState) (s : Step) → IsFit p → IsTied p → HasLoans p → enabled p s ≡ true
         → HasLoans (stepped p s).state }
 {}
 
-/// So it is after every journal that is a run.
+/// The same holds after every journal that is a run.
 pub fn every_run_keeps_loans()
     ensures { (spec : PartSpec) (journal : List Event) → IsFitSpec spec → IsRun spec journal
         → HasLoans (state_of spec journal) }

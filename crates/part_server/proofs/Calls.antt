@@ -1,4 +1,4 @@
--- What calls of several turns do to what a seat knows.
+-- How calls of several turns change what a seat knows.
 use Rattle.std.proofs.Common.{ℕ, ◌<◌, ◌≤◌, Bool, true, false, Some, None, Result, Ok, Err, length, sym, ◌∙◌, subst, arith}
 use Rattle.nook_data.specs.declared.desks.DeskRefused.{DeskRefused}
 use Rattle.nook_data.specs.declared.desks.DeskRefused.TheVariants as refused
@@ -53,10 +53,10 @@ module _ (spec : PartSpec) (u v x : DeskView) where
       let low = at_low w.at_invoke v.seen (IsInvoke w.call thread o) a.1 in
       let at : w.at_invoke ≤ length v.seen = low.1 in
       let past : length v.seen < receipt.at_reply = b.4 in
-      let place = b.2 in
+      let number = b.2 in
       let all : Invokes u x w.call thread o w.at_invoke = invokes_more u v x w.call thread o w.at_invoke a.0 a.1 b.0 in
       let mine : Invokes u x receipt.call thread o receipt.at_invoke =
-      subst (λ (n : ℕ). Invokes u x n thread o receipt.at_invoke) (sym b.1) (subst (λ (n : ℕ). Invokes u x w.call thread o n) (sym place) all) in (
+      subst (λ (n : ℕ). Invokes u x n thread o receipt.at_invoke) (sym b.1) (subst (λ (n : ℕ). Invokes u x w.call thread o n) (sym number) all) in (
         mine,
         record {
           invoked = mine.invoked;
@@ -77,7 +77,7 @@ module _ (spec : PartSpec) (u v x : DeskView) where
   call_err thread o w refused.NoOpenCall a b = absurd b
   call_err thread o w refused.TooManyArrivals a b = absurd b
 
-  -- ---- an open call that is gone on with
+  -- ---- an open call that is resumed
 
   pub resume_ok : (thread : ℕ) (w : Waiting) (receipt : Receipt) → FindEnds spec u v thread (Ok w) → FinishEnds spec v x w (Ok receipt)
       → ResumeEnds spec u x thread (Ok receipt)
@@ -89,12 +89,12 @@ module _ (spec : PartSpec) (u v x : DeskView) where
       let low : length u.seen ≤ length v.seen = prefix_length u.seen v.seen a.0.seen in
       let at : w.at_invoke ≤ length v.seen = (at_low w.at_invoke v.seen (IsInvoke w.call thread o) here).1 in
       let past : length v.seen < receipt.at_reply = b.4 in
-      let place = b.2 in (
+      let number = b.2 in (
         waits_more u v x (waits_nothing u v a.0) b.0,
         record {
           op = o;
           known = record {
-            invoked = subst (λ (n : ℕ). IsAt x.seen n (IsInvoke receipt.call thread o)) (sym place)
+            invoked = subst (λ (n : ℕ). IsAt x.seen n (IsInvoke receipt.call thread o)) (sym number)
                 (subst (λ (n : ℕ). IsAt x.seen w.at_invoke (IsInvoke n thread o)) (sym b.1) later);
             answered = subst (λ (n : ℕ). IsAt x.seen receipt.at_reply (IsReply n receipt.answer)) (sym b.1) b.3;
             ordered = omega arith;
@@ -115,7 +115,7 @@ module _ (spec : PartSpec) (u v x : DeskView) where
   resume_err thread w refused.NoOpenCall a b = absurd b
   resume_err thread w refused.TooManyArrivals a b = absurd b
 
-  -- ---- settling
+  -- ---- settling a desk
 
   pub settle_any : (more : Bool) → Waits u v → SettlesOnce spec v x (Ok more) → Waits u x
   settle_any true a b = waits_more u v x a b
@@ -124,7 +124,7 @@ module _ (spec : PartSpec) (u v x : DeskView) where
   pub settle_err : (e : NoMemory) → Waits u v → SettlesOnce spec v x (Err e) → Waits u x
   settle_err e a b = waits_more u v x a (waits_nothing v x b)
 
-  -- ---- each end
+  -- ---- how each call ends
 
   pub call_any : (thread : ℕ) (o : Op) (w : Waiting) (r : Result Receipt DeskRefused) → InvokeEnds spec u v thread o (Ok (progress.Open w))
       → FinishEnds spec v x w r → CallEnds spec u x thread o r

@@ -1,4 +1,4 @@
--- What each kind of turn does to what a seat knows.
+-- How each kind of turn changes what a seat knows.
 use Rattle.std.proofs.Common.{◌≡◌, ℕ, ◌+◌, ◌<◌, ◌≤◌, ◌^◌, Bool, true, false, Option, Some, None, Result, Ok, Err, List, [], ◌∷◌, ◌++◌, length, refl, sym, ap, ◌∙◌, subst, arith, length-append, append-nil}
 use Rattle.std.specs.Prelude.{is_ok}
 use Rattle.std.specs.List.{Contains}
@@ -11,7 +11,7 @@ use Rattle.nook_data.specs.declared.calls.Op.{Op}
 use Rattle.nook_data.specs.declared.scenario.PartSpec.{PartSpec}
 use Rattle.nook_data.specs.declared.desks.Receipt.{Receipt}
 use Rattle.nook_data.specs.declared.memory.NoMemory.{NoMemory}
-use Rattle.nook_data.specs.Places.{at_number}
+use Rattle.nook_data.specs.Numbered.{at_number}
 use Rattle.part_defs.specs.Runs.{PartRun, IsRun, next_any, state_of}
 use Rattle.nook_data.specs.Answers.{answer_at}
 use Rattle.part_defs.specs.State.{PartState}
@@ -39,7 +39,7 @@ Vw = View Event PartSpec
 pub run_short : (spec : PartSpec) (journal : List Event) → IsValidPart spec → IsRun spec journal → length journal < 2 ^ 62
 run_short spec journal valid run = let l : length journal < 2 ^ 23 = run_small spec journal (valid_fits spec valid) valid.limit run in omega arith
 
--- what a seat of the turn has seen is a run of what it knows of
+-- what a seat of the turn has seen is a run of the part that it knows of
 pub seen_run : (home : Option PartSpec) (spec s : PartSpec) (journal : List Event) → home ≡ Some spec → s ≡ spec → IsRun s journal → IsSeen home journal
 seen_run home spec s journal h e run other is = subst (λ (x : PartSpec). IsRun x journal) (e ∙ inner (sym h ∙ is)) run
   where
@@ -49,7 +49,7 @@ seen_run home spec s journal h e run other is = subst (λ (x : PartSpec). IsRun 
 state_is : (spec : PartSpec) (q : PartRun) → q.state.spec ≡ spec → q.state ≡ state_of q.state.spec q.journal → q.state ≡ state_of spec q.journal
 state_is spec q e at = at ∙ ap (λ (s : PartSpec). state_of s q.journal) e
 
--- the one event more stands at the last place
+-- the new event has the last number
 grown_at : (r q : PartRun) (Is : Event → Type 0) → Grows r q Is → IsAt q.journal (length q.journal) Is
 grown_at r q Is g = record {
   event = g.event;
@@ -57,7 +57,7 @@ grown_at r q Is g = record {
   is = g.is;
 }
 
--- ---- a turn that commits
+-- ---- a turn that commits an event
 
 module _ (stamps stamps' : List ℕ) (clock clock' : ℕ) (spec : PartSpec) (v : Vw) (r q : PartRun) (pre : IsPrefix v.seen r.journal) (alone : IsAlone v → r.journal ≡ v.seen)
     (home : r.state.spec ≡ spec) (at : q.state ≡ state_of q.state.spec q.journal) where
@@ -73,13 +73,13 @@ module _ (stamps stamps' : List ℕ) (clock clock' : ℕ) (spec : PartSpec) (v :
         made = refl;
         rising = (omega arith, tt);
         share = refl;
-        own = λ a place past within.
+        own = λ a number past within.
             let same : length r.journal ≡ length v.seen = ap length (alone a) in
-            subst (λ (n : ℕ). Contains (n ∷ []) place) (last (length v.seen) place (length q.journal) past within (omega arith)) (Contains-push [] place);
+            subst (λ (n : ℕ). Contains (n ∷ []) number) (last (length v.seen) number (length q.journal) past within (omega arith)) (Contains-push [] number);
       }
     where
-      last : (n place m : ℕ) → n < place → place ≤ m → m ≡ n + 1 → place ≡ m
-      last n place m a b c = omega arith
+      last : (n number m : ℕ) → n < number → number ≤ m → m ≡ n + 1 → number ≡ m
+      last n number m a b c = omega arith
 
   home_after : (Is : Event → Type 0) → Grows r q Is → q.state ≡ state_of spec q.journal
   home_after Is g = state_is spec q (g.spec ∙ home) at
@@ -129,7 +129,7 @@ module _ (stamps stamps' : List ℕ) (clock clock' : ℕ) (spec : PartSpec) (v :
   pub settle_ends_ok : SettleGives r q (Ok true) → SettlesOnce spec (seen_view v stamps clock) (seen_view given stamps' clock') (Ok true)
   settle_ends_ok h = waits_one (seen_view v stamps clock) (seen_view given stamps' clock') (length q.journal) (grown_adds IsOther h) (grown_at r q IsOther h)
 
--- ---- a turn that gives back what it took
+-- ---- a turn that gives back the part as it was taken
 
 module _ (stamps stamps' : List ℕ) (clock clock' : ℕ) (spec : PartSpec) (v : Vw) (r : PartRun) (pre : IsPrefix v.seen r.journal) (alone : IsAlone v → r.journal ≡ v.seen)
     (home : r.state.spec ≡ spec) (at : r.state ≡ state_of r.state.spec r.journal) where
@@ -142,13 +142,13 @@ module _ (stamps stamps' : List ℕ) (clock clock' : ℕ) (spec : PartSpec) (v :
     made = sym (append-nil v.made);
     rising = tt;
     share = refl;
-    own = λ a place past within.
+    own = λ a number past within.
         let same : length r.journal ≡ length v.seen = ap length (alone a) in
-        absurd (none (length v.seen) place (length r.journal) past within same);
+        absurd (none (length v.seen) number (length r.journal) past within same);
   }
     where
-      none : (n place m : ℕ) → n < place → place ≤ m → m ≡ n → ⊥
-      none n place m a b c = omega arith
+      none : (n number m : ℕ) → n < number → number ≤ m → m ≡ n → ⊥
+      none n number m a b c = omega arith
 
   state_here : r.state ≡ state_of spec r.journal
   state_here = state_is spec r home at
@@ -179,10 +179,10 @@ module _ (stamps stamps' : List ℕ) (clock clock' : ℕ) (spec : PartSpec) (v :
   advance_ends_err q w refused.NoOpenCall waits h = absurd h
   advance_ends_err q w refused.TooManyArrivals waits h = absurd h
 
-  pub found_ends : (w : Waiting) (receipt : Receipt) (place : ℕ) (e : Event) → at_number place r.journal ≡ Some e → length v.seen < place
-      → receipt.call ≡ w.call → receipt.at_invoke ≡ w.at_invoke → receipt.at_reply ≡ place → answer_at w.call e ≡ Some receipt.answer
+  pub found_ends : (w : Waiting) (receipt : Receipt) (number : ℕ) (e : Event) → at_number number r.journal ≡ Some e → length v.seen < number
+      → receipt.call ≡ w.call → receipt.at_invoke ≡ w.at_invoke → receipt.at_reply ≡ number → answer_at w.call e ≡ Some receipt.answer
       → AdvanceEnds spec (seen_view v stamps clock) (seen_view returned stamps' clock') w (Ok (progress.Answered receipt))
-  found_ends w receipt place e there past call invoke reply answer' = (
+  found_ends w receipt number e there past call invoke reply answer' = (
     waits_nothing (seen_view v stamps clock) (seen_view returned stamps' clock') kept_adds,
     call,
     invoke,
@@ -213,7 +213,7 @@ module _ (stamps stamps' : List ℕ) (clock clock' : ℕ) (spec : PartSpec) (v :
   pub settle_ends_err : (e : NoMemory) → SettlesOnce spec (seen_view v stamps clock) (seen_view returned stamps' clock') (Err e)
   settle_ends_err e = kept_adds
 
--- ---- what a refusal leaves of the part
+-- ---- the part after a refusal
 
 pub invoke_same : (r q : PartRun) (thread : ℕ) (o : Op) (e : DeskRefused) → InvokeGives r q thread o (Err e) → q ≡ r
 invoke_same r q thread o (refused.NoMemory None) h = h
@@ -239,7 +239,7 @@ arrive_same r q frame (refused.OpenCall call) h = absurd h
 arrive_same r q frame refused.NoOpenCall h = absurd h
 arrive_same r q frame refused.TooManyArrivals h = h.0
 
--- the one event more, and what the part is made from
+-- one new event, and the part's spec
 record OneMore (r q : PartRun) : Type 0 where
   pub event : Event
   pub journal : q.journal ≡ r.journal ++ event ∷ []
@@ -256,7 +256,7 @@ go_on_more : (r q : PartRun) (w : Waiting) (p : Progress) → GoOnGives r q w (O
 go_on_more r q w (progress.Answered receipt) h = one_more r q (λ e. IsOther e × IsReply w.call receipt.answer e) h.0
 go_on_more r q w (progress.Open next) h = one_more r q IsOther h.0
 
--- how a step changes the part: by one event more, or by nothing
+-- how a step changes the part: it adds one event, or nothing
 abbrev pub GrowsBy : Bool → PartRun → PartRun → Type 0
 GrowsBy b r q = IsGrown b r.journal q.journal × (q.state.spec ≡ r.state.spec)
 

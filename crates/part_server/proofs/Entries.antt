@@ -3,7 +3,7 @@ use Rattle.std.proofs.Common.{◌≡◌, ◌⊎◌, inl, inr, ℕ, suc, ◌<◌,
 use mathlib.Core.List.{IsPrefix}
 use Rattle.nook_data.specs.declared.steps.Event.{Event}
 use Rattle.desk_like.specs.Stamps.{IsStamped}
-use Rattle.turn_lock.specs.Seats.{IsAlone, Tally}
+use Rattle.turn_lock.specs.Seats.{IsAlone, MadeIsSeen}
 use Rattle.turn_lock.specs.Views.{took, longer, joined, learnt}
 use Rattle.part_server.specs.declared.stamped.Stamped.{Stamped}
 use Rattle.part_server.specs.Entries.{DatedRun, TurnView, entries, events_of, stamps_of, journal_view}
@@ -53,7 +53,7 @@ entries_last [] (t ∷ ss) e s h = absurd (omega arith)
 entries_last (d ∷ es) [] e s h = absurd (omega arith)
 entries_last (d ∷ es) (t ∷ ss) e s h = ap (λ (l : List Stamped). record { event = d; stamp = t } ∷ l) (entries_last es ss e s (omega arith))
 
--- ---- what is kept, and what the turn lists of it
+-- ---- the value in the lock, and its entries
 
 module _ (x : DatedRun) (stamped : IsStamped x.run.journal x.stamps) where
   pub listed_events : events_of (entries x.run.journal x.stamps) ≡ x.run.journal
@@ -80,16 +80,16 @@ module _ (x : DatedRun) (stamped : IsStamped x.run.journal x.stamps) where
 
 -- ---- what a seat of the turn may claim
 
-pub tally_view : (v : TurnView) → Tally v → Tally (journal_view v)
-tally_view v t = record {
-  within = subst (λ (n : ℕ). All (λ place. (v.start < place) × (place ≤ n)) v.made) long t.within;
-  all = λ alone place past low. t.all alone place past (omega (arith, events_length v.seen));
+pub made_is_seen_view : (v : TurnView) → MadeIsSeen v → MadeIsSeen (journal_view v)
+made_is_seen_view v t = record {
+  within = subst (λ (n : ℕ). All (λ number. (v.start < number) × (number ≤ n)) v.made) long t.within;
+  all = λ alone number past low. t.all alone number past (omega (arith, events_length v.seen));
 }
   where
     long : length v.seen ≡ length (events_of v.seen)
     long = sym (events_length v.seen)
 
--- ---- a seat that took another in has seen what one of the two had
+-- ---- a seat into which another was joined has seen what one of the two had
 
 picked : (b : Bool) (xs ys : List Stamped) → (cond b ys xs ≡ xs) ⊎ (cond b ys xs ≡ ys)
 picked true xs ys = inr refl
@@ -105,7 +105,7 @@ longer_is_one xs ys zs e = from_either (picked (nat_lt (length xs) (length ys)) 
 pub joined_one : (v w x : TurnView) → x ≡ learnt (joined v w) → (x.seen ≡ v.seen) ⊎ (x.seen ≡ w.seen)
 joined_one v w x is = longer_is_one v.seen w.seen x.seen (ap (λ (y : TurnView). y.seen) is)
 
--- so what holds of both holds of it
+-- so what holds for both lists holds for that of the joined seat
 pub of_either : (P : List Stamped → Type 0) (xs ys zs : List Stamped) → (zs ≡ xs) ⊎ (zs ≡ ys) → P xs → P ys → P zs
 of_either P xs ys zs (inl h) p q = subst P (sym h) p
 of_either P xs ys zs (inr h) p q = subst P (sym h) q

@@ -1,4 +1,4 @@
--- A seat that took another in.
+-- A seat into which another was joined.
 use Rattle.std.proofs.Common.{◌≡◌, ◌⊎◌, ℕ, Option, Some, List, sym, ap, ◌∙◌, subst}
 use mathlib.Core.List.{IsPrefix}
 use Rattle.nook_data.specs.declared.scenario.PartSpec.{PartSpec}
@@ -26,7 +26,7 @@ joined_views v w x m n k is p q = record {
   share = ap (λ (y : TurnView). y.share) is;
 }
 
--- what holds of two seats' fields holds of the seats
+-- what holds for the fields of two seats holds for the seats
 pub of_views : (P : SeatValue → SeatValue → Type 0) (s : TurnValue) (m : ℕ) (t : TurnValue) (n : ℕ) (seat other : SeatValue)
     → record { seat = s; clock = m } ≡ seat → record { seat = t; clock = n } ≡ other
     → P (record { seat = s; clock = m }) (record { seat = t; clock = n }) → P seat other

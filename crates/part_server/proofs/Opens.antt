@@ -1,4 +1,4 @@
--- A thread's open call over a run: it was invoked, and stays the thread's open call until an event answers it.
+-- A thread's open call over a run: it was invoked, and stays open until an event answers it.
 use Rattle.std.proofs.Common.{◌≡◌, ◌⊎◌, inl, inr, ℕ, zero, suc, ◌+◌, ◌<◌, ◌==◌, ◌&&◌, nat_lt, is_none, is_some, true, Option, Some, None, List, [], ◌∷◌, ◌++◌, length, drop, slice_get, refl, sym, ap, ◌∙◌, subst, arith, eqb-true}
 use Rattle.std.specs.List.{list_any, AllByRecursion}
 use Rattle.std.proofs.lemmas.Bool.{and_parts, or_left, or_right, eq-eqb}
@@ -12,7 +12,7 @@ use Rattle.nook_data.specs.declared.scenario.PartSpec.{PartSpec}
 use Rattle.nook_data.specs.declared.steps.Step.{Step}
 use Rattle.nook_data.specs.declared.steps.Step.TheVariants as step
 use Rattle.part_defs.specs.Log.{call_of_thread, opening_log}
-use Rattle.nook_data.specs.Places.{at_number}
+use Rattle.nook_data.specs.Numbered.{at_number}
 use Rattle.part_defs.specs.Runs.{IsRun, IsRunFrom, event_of, state_after, state_from, state_of, step_of}
 use Rattle.nook_data.specs.Answers.{answer_at}
 use Rattle.part_defs.specs.Views.CallLogs.{answered_from}
@@ -28,7 +28,7 @@ use Rattle.part_laws.proofs.TiedBursts.{step_tied}
 use Rattle.part_laws.proofs.ValidFits.{valid_fits}
 use Rattle.part_laws.specs.Fit.{IsFit}
 use Rattle.part_laws.specs.Tied.{IsTied}
-use Rattle.run_laws.proofs.Numbers.{number, told_number, started_number, number_found, none_found, step_says}
+use Rattle.run_laws.proofs.Numbers.{number, pending_number, started_number, number_found, none_found, step_says}
 use Rattle.part_server.specs.Answers.{Numbers, is_invocation}
 use Rattle.nook_data.proofs.Options.{none_is_some, same_inside}
 
@@ -67,19 +67,19 @@ not_started p t call (event.Burst context c burst count end acts a failure) n h 
 not_started p t call (event.Stage s answers released) n h = refl
 not_started p t call (event.Arrive frame kept) n h = refl
 
-not_told : (f : ℕ → Option Answer) (call : ℕ) → f call ≡ None → told_number f (Some call) ≡ Some call
-not_told f call h = rw h refl
+not_reported : (f : ℕ → Option Answer) (call : ℕ) → f call ≡ None → pending_number f (Some call) ≡ Some call
+not_reported f call h = rw h refl
 
-was_told : (f : ℕ → Option Answer) (w : Option ℕ) (call : ℕ) → told_number f w ≡ Some call → w ≡ Some call
-was_told f None call h = h
-was_told f (Some c) call h = split (is_some (f c))
+was_pending : (f : ℕ → Option Answer) (w : Option ℕ) (call : ℕ) → pending_number f w ≡ Some call → w ≡ Some call
+was_pending f None call h = h
+was_pending f (Some c) call h = split (is_some (f c))
     (λ e. none_is_some (rw e at h))
     (λ e. rw e at h)
 
 says_of : (p : PartState) (e : Event) (t : ℕ) → IsTied p → enabled p (step_of e) ≡ true → event_of p (step_of e) ≡ e
-    → number t (state_after p (step_of e)).log.pending ≡ told_number (λ call. answer_at call e) (started_number t e (number t p.log.pending))
+    → number t (state_after p (step_of e)).log.pending ≡ pending_number (λ call. answer_at call e) (started_number t e (number t p.log.pending))
 says_of p e t tied n same =
-    subst (λ (x : Event). number t (state_after p (step_of e)).log.pending ≡ told_number (λ call. answer_at call x) (started_number t x (number t p.log.pending)))
+    subst (λ (x : Event). number t (state_after p (step_of e)).log.pending ≡ pending_number (λ call. answer_at call x) (started_number t x (number t p.log.pending)))
     same (step_says p (step_of e) t tied n)
 
 -- ---- over a run
@@ -91,8 +91,8 @@ stays_from p [] t call f tied r n all = n
 stays_from p (e ∷ events) t call f tied r n all =
     stays_from (state_after p (step_of e)) events t call (fit_after p (step_of e) f r.0) (tied_after p e f tied r.0) r.2
     (says_of p e t tied r.0 r.1
-    ∙ ap (told_number (λ c. answer_at c e)) (not_started p t call e r.0 n ∙ n)
-    ∙ not_told (λ c. answer_at c e) call all.0)
+    ∙ ap (pending_number (λ c. answer_at c e)) (not_started p t call e r.0 n ∙ n)
+    ∙ not_reported (λ c. answer_at c e) call all.0)
     all.1
 
 started_here : (t call : ℕ) (e : Event) (w : Option ℕ) → started_number t e w ≡ Some call → (w ≡ Some call) ⊎ (is_invocation call t e ≡ true)
@@ -113,7 +113,7 @@ unfolding IsRunFrom state_from
 invoked_from p [] t call f tied r h = inl h
 invoked_from p (e ∷ events) t call f tied r h =
     elim (invoked_from (state_after p (step_of e)) events t call (fit_after p (step_of e) f r.0) (tied_after p e f tied r.0) r.2 h) [
-      | inl n ↦ elim (started_here t call e (number t p.log.pending) (was_told (λ c. answer_at c e) _ call (sym (says_of p e t tied r.0 r.1) ∙ n))) [
+      | inl n ↦ elim (started_here t call e (number t p.log.pending) (was_pending (λ c. answer_at c e) _ call (sym (says_of p e t tied r.0 r.1) ∙ n))) [
         | inl before ↦ inl before
         | inr here ↦ inr (or_left (is_invocation call t e) (list_any (is_invocation call t) events) here)
       ]
@@ -133,7 +133,7 @@ was_invoked spec journal t call valid r h =
       | inr some ↦ some
     ]
 
--- ---- the first answer among the events past a number
+-- ---- the first answer among the events after a number
 
 abbrev pub IsUnanswered : ℕ → List Event → Type 0
 IsUnanswered call events = AllByRecursion (λ e. answer_at call e ≡ None) events
@@ -146,27 +146,27 @@ none_answers n call (e ∷ events) h = by_answer (answer_at call e) refl (none_a
     by_answer None i more = (i, more (rw i at h))
     by_answer (Some a) i more = none_is_some (sym (rw i at h))
 
--- an event answers at a place past the number
-record AnswersPast (from call place : ℕ) (events : List Event) : Type 0 where
+-- an event answers the call, and its number is larger than this one
+record AnswersPast (from call position : ℕ) (events : List Event) : Type 0 where
   past : ℕ
-  stands : place ≡ suc (from + past)
+  is_at : position ≡ suc (from + past)
   event : Event
   there : slice_get events past ≡ Some event
   answers : is_some (answer_at call event) ≡ true
 
-first_answers : (from call place : ℕ) (events : List Event) → answered_from (from + 1) call events ≡ Some place → AnswersPast from call place events
-first_answers from call place [] h = none_is_some h
-first_answers from call place (e ∷ events) h = by_answer (answer_at call e) refl (first_answers (from + 1) call place events)
+first_answers : (from call position : ℕ) (events : List Event) → answered_from (from + 1) call events ≡ Some position → AnswersPast from call position events
+first_answers from call position [] h = none_is_some h
+first_answers from call position (e ∷ events) h = by_answer (answer_at call e) refl (first_answers (from + 1) call position events)
   where
-    next : AnswersPast (from + 1) call place events → AnswersPast from call place (e ∷ events)
-    next a = record { past = suc a.past; stands = let p : place ≡ suc (from + 1 + a.past) = a.stands in omega arith; event = a.event; there = a.there; answers = a.answers }
+    next : AnswersPast (from + 1) call position events → AnswersPast from call position (e ∷ events)
+    next a = record { past = suc a.past; is_at = let p : position ≡ suc (from + 1 + a.past) = a.is_at in omega arith; event = a.event; there = a.there; answers = a.answers }
 
     by_answer : (o : Option Answer) → answer_at call e ≡ o
-        → (answered_from (from + 1 + 1) call events ≡ Some place → AnswersPast (from + 1) call place events) → AnswersPast from call place (e ∷ events)
+        → (answered_from (from + 1 + 1) call events ≡ Some position → AnswersPast (from + 1) call position events) → AnswersPast from call position (e ∷ events)
     by_answer None i more = next (more (rw i at h))
     by_answer (Some a) i more = record {
       past = 0;
-      stands = let p : from + 1 ≡ place = same_inside (rw i at h) in omega arith;
+      is_at = let p : from + 1 ≡ position = same_inside (rw i at h) in omega arith;
       event = e;
       there = refl;
       answers = ap is_some i;
@@ -181,12 +181,12 @@ past_drop (suc from) k zero (x ∷ events) e same h = absurd (none from k same)
     none from k h = omega arith
 past_drop (suc from) k (suc n) (x ∷ events) e same h = past_drop from k n events e (omega arith) h
 
--- the first event past a number that answers a call stands at its place
-pub answer_there : (from call place : ℕ) (events : List Event) → answered_from (from + 1) call (drop from events) ≡ Some place
-    → (from < place) × ((e : Event) × (at_number place events ≡ Some e) × (is_some (answer_at call e) ≡ true))
-answer_there from call place events h =
-    let a : AnswersPast from call place (drop from events) = first_answers from call place (drop from events) h in
-    let p : place ≡ suc (from + a.past) = a.stands in (
+-- the first event after a number that answers a call has the number that was found
+pub answer_there : (from call position : ℕ) (events : List Event) → answered_from (from + 1) call (drop from events) ≡ Some position
+    → (from < position) × ((e : Event) × (at_number position events ≡ Some e) × (is_some (answer_at call e) ≡ true))
+answer_there from call position events h =
+    let a : AnswersPast from call position (drop from events) = first_answers from call position (drop from events) h in
+    let p : position ≡ suc (from + a.past) = a.is_at in (
       omega arith,
       (
         a.event,
@@ -195,7 +195,7 @@ answer_there from call place events h =
       ),
     )
 
--- ---- a run and more
+-- ---- a run and a longer one
 
 run_parts : (p : PartState) (xs ys : List Event) → IsRunFrom p (xs ++ ys) → IsRunFrom (state_from p xs) ys
 unfolding IsRunFrom state_from
@@ -211,7 +211,7 @@ drop_front : (xs ys : List Event) → drop (length xs) (xs ++ ys) ≡ ys
 drop_front [] ys = refl
 drop_front (x ∷ xs) ys = drop_front xs ys
 
--- a call that was open and is not answered since is open
+-- a call that was open, and was not answered since, is open
 pub still_open : (spec : PartSpec) (seen all : List Event) (t call : ℕ) → IsValidPart spec → IsRun spec seen → IsPrefix seen all → IsRun spec all
     → HasOpen (state_of spec seen) t call → answered_from (length seen + 1) call (drop (length seen) all) ≡ None → HasOpen (state_of spec all) t call
 still_open spec seen all t call valid r pre whole waits none =
@@ -232,7 +232,7 @@ says_after : (p : PartState) (s : Step) (t call : ℕ) → IsTied p → enabled 
     → answer_at call (event_of p s) ≡ None → HasOpen (state_after p s) t call
 says_after p s t call tied n begun none =
     number_has (state_after p s) t call
-    (step_says p s t tied n ∙ ap (told_number (λ c. answer_at c (event_of p s))) begun ∙ not_told (λ c. answer_at c (event_of p s)) call none)
+    (step_says p s t tied n ∙ ap (pending_number (λ c. answer_at c (event_of p s))) begun ∙ not_reported (λ c. answer_at c (event_of p s)) call none)
 
 -- an open call that the step does not answer
 pub open_after : (p : PartState) (s : Step) (t call : ℕ) → IsTied p → enabled p s ≡ true → HasOpen p t call → answer_at call (event_of p s) ≡ None

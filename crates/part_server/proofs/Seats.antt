@@ -22,7 +22,7 @@ use Rattle.part_server.specs.Turns.{InvokeGives, GoOnGives, FindGives, ArriveGiv
 use Rattle.part_server.proofs.Ends.{Vw, invoke_ends_ok, advance_ends_ok, arrive_ends_ok, settle_ends_ok, invoke_ends_err, advance_ends_err, found_ends, find_ends, arrive_ends_err, settle_ends_none, settle_ends_err, invoke_same, go_on_same, arrive_same}
 use Rattle.part_server.proofs.Opens.{still_open}
 
--- the part r was taken through a seat, which knew v
+-- the part r was taken through a seat whose view was v
 pub record IsTaken (spec : PartSpec) (old v : Vw) (r : PartRun) : Type 0 where
   pub same : v ≡ old
   pub begins : IsPrefix v.seen r.journal
@@ -127,7 +127,7 @@ module _ (stamps stamps' : List ℕ) (clock clock' : ℕ) (spec : PartSpec) (old
       both stamps stamps' clock clock' spec old v w r r t k (λ a b. AdvanceEnds spec a b w0 (Ok (progress.Answered receipt))) (gave (took v r.journal)) e
       (found_ends stamps stamps' clock clock' spec v r t.begins t.alone t.home k.state w0 receipt receipt.at_reply at.event at.there (omega arith) h.0 h.1 refl at.is)
 
-  -- an open call that is not answered yet is gone on with
+  -- an open call that is not answered yet continues
   pub look_goes_on : (w0 next : Waiting) → IsSeen v.origin v.seen → v.origin ≡ Some spec → IsWaitingIn spec (seen_view old stamps clock) w0 → LookGives r.journal w0 (Err next)
       → IsGoingOn r next
   look_goes_on w0 next seen home waits h =

@@ -1,4 +1,4 @@
--- Every answer of a run has at most 128 words: a Read is of at most 8 blocks, and a frame that is handed up has at most 64 words.
+-- Every answer of a run has at most 128 words: a Read reads at most 8 blocks, a frame handed up has at most 64 words.
 use Rattle.std.proofs.Common.{◌≡◌, ℕ, zero, suc, ◌+◌, ◌-◌, ◌*◌, ◌≤◌, ◌==◌, ◌&&◌, nat_lt, nat_le, not, if◌then◌else◌, Bool, true, false, Option, Some, None, Result, Ok, Err, List, [], ◌∷◌, ◌++◌, length, take, drop, min, slice_range, refl, sym, subst, arith, length-take}
 use Rattle.std.specs.List.{AllByRecursion}
 use Rattle.std.proofs.lemmas.Bool.{and_parts, leb-true}
@@ -31,7 +31,7 @@ use Rattle.nook_data.specs.declared.machine.Service.TheVariants as service
 use Rattle.part_defs.specs.Calls.{Stepped, after_invoke, answer_in, queue_in, after_enter, after_admit}
 use Rattle.part_defs.proofs.PartCases.{admit_open, entered_by, invoked_by, reply_by, serve_by, stage_by, with_burst}
 use Rattle.nook_data.specs.Classes.{static_check, check_op, check_range, check_length, is_block_length, is_of_class}
-use Rattle.nook_data.specs.Classes.{maximum_of, same_class, admit, admit_holder, is_holder, entry_place, accept}
+use Rattle.nook_data.specs.Classes.{maximum_of, same_class, admit, admit_holder, is_holder, entry_address, accept}
 use Rattle.part_defs.specs.Crossing.{Crossed, fails, is_last, heap_start, is_accepted, next_stage, closes_call}
 use Rattle.part_defs.specs.Crossing.{reply_answer, call_replied, after_crossing}
 use Rattle.nook_data.specs.Frames.{head_of, tail_of}
@@ -39,7 +39,7 @@ use Rattle.part_defs.specs.Domain.{domain_burst, first_argument, second_argument
 use Rattle.part_defs.specs.Log.{call_of_thread, shadow_answer, frame_or_empty, queue_after, with_answer, stop_answers}
 use Rattle.part_defs.specs.Log.{stop_queue, gone_answers}
 use Rattle.nook_data.specs.Layout.{buffer_start}
-use Rattle.nook_data.specs.Places.{at_number}
+use Rattle.nook_data.specs.Numbered.{at_number}
 use Rattle.nook_data.specs.Valid.{IsValidPart}
 use Rattle.nook_data.specs.Answers.{one_answer}
 use Rattle.part_defs.specs.Runs.{IsRun, IsRunFrom, event_of, state_after, step_of}
@@ -58,7 +58,7 @@ use Rattle.part_laws.proofs.ValidFits.{valid_fits}
 use Rattle.part_laws.specs.Fit.{IsFit, IsFitSpec}
 use Rattle.part_server.specs.Answers.{IsShort, AnswersShortly}
 
--- ---- what is kept: the frames of the kernel's queue are short
+-- ---- an invariant: the frames in the kernel's queue are short
 
 abbrev IsShortFrame : List ℕ → Type 0
 IsShortFrame frame = length frame ≤ 128
@@ -196,15 +196,15 @@ invoke_short p thread o h = by_check (static_check p.spec.class p.spec.blocks o)
 abbrev IsShortAdmit : Admit → Type 0
 IsShortAdmit (admits.Reply a) = IsShort a
 IsShortAdmit admits.TakeFrame = Unit {0}
-IsShortAdmit (admits.Enter place) = Unit {0}
+IsShortAdmit (admits.Enter position) = Unit {0}
 
 open_short : (holder : Option ℕ) → IsShortAdmit (admit_open holder)
 open_short None = tt
 open_short (Some thread) = omega arith
 
-holder_short : (b : Bool) (place : ℕ) → IsShortAdmit (admit_holder b place)
-holder_short true place = tt
-holder_short false place = omega arith
+holder_short : (b : Bool) (position : ℕ) → IsShortAdmit (admit_holder b position)
+holder_short true position = tt
+holder_short false position = omega arith
 
 admit_short : (c : Class) (thread : ℕ) (o : Op) (holder : Option ℕ) (queued : ℕ) → IsShortAdmit (admit c thread o holder queued)
 admit_short c thread (op.Read first count) holder queued = tt
@@ -212,8 +212,8 @@ admit_short c thread (op.Write first words) holder queued = tt
 admit_short c thread (op.Send frame) holder queued = tt
 admit_short c thread op.Recv holder queued = split (queued == 0) (λ e. rw e tt) (λ e. rw e tt)
 admit_short c thread op.Open holder queued = open_short holder
-admit_short c thread (op.Play samples) holder queued = holder_short (is_holder holder thread) (entry_place c (op.Play samples))
-admit_short c thread op.Close holder queued = holder_short (is_holder holder thread) (entry_place c op.Close)
+admit_short c thread (op.Play samples) holder queued = holder_short (is_holder holder thread) (entry_address c (op.Play samples))
+admit_short c thread op.Close holder queued = holder_short (is_holder holder thread) (entry_address c op.Close)
 admit_short c thread (op.Get key) holder queued = tt
 admit_short c thread (op.Set key value) holder queued = tt
 
@@ -224,7 +224,7 @@ enter_short p thread h = by_call (call_of_thread thread p.log.pending)
     by_admit : (c : CallEntry) (a : Admit) → IsShortAdmit a → StaysShort (after_admit p c a)
     by_admit c (admits.Reply a) i = (h, i)
     by_admit c admits.TakeFrame i = (tail_short p.queue h, head_short p.queue h)
-    by_admit c (admits.Enter place) i = (h, tt)
+    by_admit c (admits.Enter position) i = (h, tt)
 
     by_call : (o : Option CallEntry) → StaysShort (entered_by p thread o)
     by_call None = (h, tt)
@@ -463,7 +463,7 @@ nothing_queued spec = tt
 run_short : (spec : PartSpec) (journal : List Event) → IsFitSpec spec → IsRun spec journal → AllByRecursion AnswersShortly journal
 run_short spec journal fit r = short_from (opening spec) journal (opening_fit spec fit) (nothing_queued spec) r
 
-all_at : (P : Event → Type 0) (place : ℕ) (events : List Event) (e : Event) → AllByRecursion P events → at_number place events ≡ Some e → P e
+all_at : (P : Event → Type 0) (position : ℕ) (events : List Event) (e : Event) → AllByRecursion P events → at_number position events ≡ Some e → P e
 all_at P zero events e all h = cc
 all_at P (suc k) [] e all h = cc
 all_at P (suc zero) (x ∷ events) e all h = subst P (inner h) all.0
@@ -472,7 +472,7 @@ all_at P (suc zero) (x ∷ events) e all h = subst P (inner h) all.0
     inner y = cc
 all_at P (suc (suc k)) (x ∷ events) e all h = all_at P (suc k) events e all.1 h
 
--- what stands at a place of a run answers shortly
-pub short_at : (spec : PartSpec) (journal : List Event) (place : ℕ) (e : Event) → IsValidPart spec → IsRun spec journal → at_number place journal ≡ Some e
+-- the event with a number in a run has a short answer
+pub short_at : (spec : PartSpec) (journal : List Event) (position : ℕ) (e : Event) → IsValidPart spec → IsRun spec journal → at_number position journal ≡ Some e
     → AnswersShortly e
-short_at spec journal place e valid r h = all_at AnswersShortly place journal e (run_short spec journal (valid_fits spec valid) r) h
+short_at spec journal position e valid r h = all_at AnswersShortly position journal e (run_short spec journal (valid_fits spec valid) r) h

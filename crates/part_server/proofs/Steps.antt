@@ -14,7 +14,7 @@ use Rattle.nook_data.specs.declared.steps.Step.TheVariants as step
 use Rattle.nook_data.specs.declared.calls.CallEntry.{CallEntry}
 use Rattle.nook_data.specs.Classes.{same_class}
 use Rattle.part_defs.specs.Log.{call_of_thread}
-use Rattle.nook_data.specs.Places.{at_number}
+use Rattle.nook_data.specs.Numbered.{at_number}
 use Rattle.std.specs.Option.{option_or}
 use Rattle.part_defs.specs.Runs.{PartRun, IsRun, event_of, run_after, state_after, state_of, step_of, if_enabled}
 use Rattle.part_defs.specs.Runs.{next_for, next_recovery, next_of_calls, next_any}
@@ -65,18 +65,18 @@ last_there xs e = ap (λ (n : ℕ). at_number n (xs ++ e ∷ [])) (length_more x
 pub last_is : (journal xs : List Event) (e : Event) (Is : Event → Type 0) → journal ≡ xs ++ e ∷ [] → IsAt journal (length journal) Is → Is e
 last_is journal xs e Is same at = subst Is (same_inside (sym (subst (λ (l : List Event). at_number (length l) l ≡ Some at.event) same at.there) ∙ last_there xs e)) at.is
 
--- the event at a place, as it is read
-pub at_place : (place : ℕ) (xs : List Event) (e : Event) → 0 < place → slice_get xs (place - 1) ≡ Some e → at_number place xs ≡ Some e
-at_place zero xs e h i = absurd (none h)
+-- the event with a number, as the code reads it
+pub at_position : (position : ℕ) (xs : List Event) (e : Event) → 0 < position → slice_get xs (position - 1) ≡ Some e → at_number position xs ≡ Some e
+at_position zero xs e h i = absurd (none h)
   where
     none : 0 < 0 → ⊥
     none h = omega arith
-at_place (suc k) xs e h i = subst (λ (n : ℕ). slice_get xs n ≡ Some e) (less k) i
+at_position (suc k) xs e h i = subst (λ (n : ℕ). slice_get xs n ≡ Some e) (less k) i
   where
     less : (k : ℕ) → suc k - 1 ≡ k
     less k = omega arith
 
--- ---- what the event of a step is
+-- ---- the kind of event of a step
 
 pub grown : (r q : PartRun) (s : Step) (Is : Event → Type 0) → q ≡ run_after r s → Is (event_of r.state s) → Grows r q Is
 grown r q s Is e i = record {
@@ -136,7 +136,7 @@ pub any_own : (p : PartState) (x : Step) → next_any p ≡ Some x → IsOwn x
 unfolding next_any
 any_own p x h = either_own (next_recovery p) (next_of_calls p p.log.pending) x (recovery_own p x) (calls_own p p.log.pending x) h
 
--- a thread's next step may be taken
+-- a thread's next step is enabled
 pub for_enabled : (p : PartState) (t : ℕ) (x : Step) → next_for p t ≡ Some x → enabled p x ≡ true
 for_enabled p t x h = next_for_case (λ (z : Step). enabled p z ≡ true) p t x (λ e. e) (λ e. e) h
 
@@ -174,7 +174,7 @@ module _ (spec : PartSpec) (journal : List Event) (p : PartState) (valid : IsVal
   none_true None h = refl
   none_true (Some c) h = none_is_some (sym h)
 
-  -- a thread with no open call may not invoke: all numbers were given
+  -- a thread with no open call may not invoke if all call numbers were used
   pub too_many_calls : (thread : ℕ) → thread < 16 → can_invoke p thread ≡ false → call_number (call_of_thread thread p.log.pending) ≡ None
       → HasNoneOpen p thread × (p.log.count ≡ 100000)
   too_many_calls thread low refused free =
@@ -197,7 +197,7 @@ module _ (spec : PartSpec) (journal : List Event) (p : PartState) (valid : IsVal
       both : (n : ℕ) → 100000 ≤ n → n ≤ 100000 → n ≡ 100000
       both n a b = omega arith
 
--- the open call of a thread by its number
+-- a thread's open call, by its number
 pub number_open : (p : PartState) (thread call : ℕ) → call_number (call_of_thread thread p.log.pending) ≡ Some call → HasOpen p thread call
 number_open p thread call h = by_call (call_of_thread thread p.log.pending) refl
   where
@@ -205,7 +205,7 @@ number_open p thread call h = by_call (call_of_thread thread p.log.pending) refl
     by_call None e = none_is_some (sym (ap call_number e) ∙ h)
     by_call (Some c) e = record { entry = c; open_one = e; number = same_inside (sym (ap call_number e) ∙ h) }
 
--- ---- what a part's step gives
+-- ---- the result of a part's step
 
 pub kept_stepped : (r q : PartRun) (s : Step) (x : Result StepDone StepRefused) → IsKept r → IsStepped r s x q → IsKept q
 kept_stepped r q s (Ok done) k h = subst IsKept (sym h.1) (kept_after r s k h.0)
@@ -220,22 +220,22 @@ both_tests : {G : Type 0} (b : Bool) → b ≡ true → b ≡ false → G
 both_tests true h i = absurd (true≢false i)
 both_tests false h i = absurd (true≢false (sym h))
 
--- a step that may be taken is not refused as one that may not
+-- an enabled step is not refused as one that is not enabled
 pub is_enabled : (r q : PartRun) (s : Step) (e : StepRefused) → e ≡ refusal.NotEnabled → IsStepped r s (Err e) q → enabled r.state s ≡ true → ⊥
 is_enabled r q s e is h may = both_tests (enabled r.state s) may (not_enabled r q s e is h).0
 
--- the event at the place that a step tells
+-- the event with the number that a step returns
 module _ (r q : PartRun) (s : Step) (done : StepDone) (h : IsStepped r s (Ok done) q) where
   journal_is : q.journal ≡ r.journal ++ event_of r.state s ∷ []
   journal_is = ap (λ (x : PartRun). x.journal) h.1
 
-  last_stands : at_number (length q.journal) q.journal ≡ Some (event_of r.state s)
-  last_stands = ap (λ (l : List Event). at_number (length l) l) journal_is ∙ last_there r.journal (event_of r.state s)
+  last_holds : at_number (length q.journal) q.journal ≡ Some (event_of r.state s)
+  last_holds = ap (λ (l : List Event). at_number (length l) l) journal_is ∙ last_there r.journal (event_of r.state s)
 
-  pub event_is : (e : Event) → at_number done.place q.journal ≡ Some e → event_of r.state s ≡ e
-  event_is e there = same_inside (sym last_stands ∙ ap (λ (n : ℕ). at_number n q.journal) (sym h.2) ∙ there)
+  pub event_is : (e : Event) → at_number done.number q.journal ≡ Some e → event_of r.state s ≡ e
+  event_is e there = same_inside (sym last_holds ∙ ap (λ (n : ℕ). at_number n q.journal) (sym h.2) ∙ there)
 
-  pub step_is : (e : Event) → at_number done.place q.journal ≡ Some e → step_of e ≡ s
+  pub step_is : (e : Event) → at_number done.number q.journal ≡ Some e → step_of e ≡ s
   step_is e there = subst (λ (x : Event). step_of x ≡ s) (event_is e there) (step_named r.state s)
 
   -- a fact about the last event
@@ -252,7 +252,7 @@ arrival_of frame (event.Burst context c burst count end acts a failure) s none =
 arrival_of frame (event.Stage stage answers released) s none = cc
 arrival_of frame (event.Arrive f kept) s none = none f kept refl
 
-pub not_arrival : (r q : PartRun) (frame : List ℕ) (done : StepDone) (e : Event) → IsStepped r (step.Arrive frame) (Ok done) q → at_number done.place q.journal ≡ Some e
+pub not_arrival : (r q : PartRun) (frame : List ℕ) (done : StepDone) (e : Event) → IsStepped r (step.Arrive frame) (Ok done) q → at_number done.number q.journal ≡ Some e
     → ((f : List ℕ) (kept : Bool) → e ≡ event.Arrive f kept → ⊥) → ⊥
 not_arrival r q frame done e h there none = arrival_of frame e (step_is r q (step.Arrive frame) done h e there) none
 
@@ -265,7 +265,7 @@ arrives frame f kept e s is =
     frame_of n = cc
 
 pub arrive_gives : (r q : PartRun) (frame f : List ℕ) (kept : Bool) (done : StepDone) (e : Event) → IsStepped r (step.Arrive frame) (Ok done) q
-    → at_number done.place q.journal ≡ Some e → e ≡ event.Arrive f kept → Grows r q (IsArrive frame kept)
+    → at_number done.number q.journal ≡ Some e → e ≡ event.Arrive f kept → Grows r q (IsArrive frame kept)
 arrive_gives r q frame f kept done e h there is =
     grows_by r q (step.Arrive frame) done h (IsArrive frame kept)
     (subst (IsArrive frame kept) (sym (event_is r q (step.Arrive frame) done h e there)) (arrives frame f kept e (step_is r q (step.Arrive frame) done h e there) is))
@@ -285,12 +285,12 @@ pub refuses : (r : PartRun) (thread : ℕ) (o : Option ℕ) (e : DeskRefused) �
 refuses r thread o e k low no' is none = too_many_calls r.state.spec r.journal r.state k.valid k.run k.state thread low no' (sym is ∙ none)
 
 pub invoked_last : (r q : PartRun) (thread : ℕ) (o : Op) (done : StepDone) → IsStepped r (step.Invoke thread o) (Ok done) q
-    → (done.place ≡ length q.journal) × IsAt q.journal done.place Invokes
+    → (done.number ≡ length q.journal) × IsAt q.journal done.number Invokes
 invoked_last r q thread o done h = (
   h.2,
   record {
     event = event_of r.state (step.Invoke thread o);
-    there = ap (λ (n : ℕ). at_number n q.journal) h.2 ∙ last_stands r q (step.Invoke thread o) done h;
+    there = ap (λ (n : ℕ). at_number n q.journal) h.2 ∙ last_holds r q (step.Invoke thread o) done h;
     is = invocation (event_of r.state (step.Invoke thread o)) (step_named r.state (step.Invoke thread o));
   },
 )
@@ -328,7 +328,7 @@ invoke_gives r q thread o done (progress.Open w) k h g =
     )
 
 pub go_on_gives : (r q : PartRun) (w : Waiting) (s : Step) (done : StepDone) (p : Progress) → IsKept r → IsGoingOn r w → IsOwn s
-    → IsStepped r s (Ok done) q → ReachedGives q.journal (record w { looked = done.place }) p → GoOnGives r q w (Ok p)
+    → IsStepped r s (Ok done) q → ReachedGives q.journal (record w { looked = done.number }) p → GoOnGives r q w (Ok p)
 go_on_gives r q w s done (progress.Answered receipt) k waits own h g = (
   grows_by r q s done h (λ e. IsOther e × IsReply w.call receipt.answer e) (event_other r.state s own, of_last r q s done h (IsReply w.call receipt.answer) g.3),
   g.0,
@@ -340,31 +340,31 @@ go_on_gives r q w s done (progress.Open next) k waits own h g =
     let stays : HasOpen (state_after r.state s) w.thread w.call =
     open_after r.state s w.thread w.call (tied_at r.state.spec r.journal r.state k.valid k.run k.state) h.0 waits.0 silent in
     let here : HasOpen q.state w.thread w.call = subst (λ (x : PartRun). HasOpen x.state w.thread w.call) (sym h.1) stays in
-    let same : next ≡ record w { looked = done.place } = g.0 in (
+    let same : next ≡ record w { looked = done.number } = g.0 in (
       grows_by r q s done h IsOther (event_other r.state s own),
       (ap (λ (x : Waiting). x.call) same, ap (λ (x : Waiting). x.thread) same, ap (λ (x : Waiting). x.at_invoke) same),
       subst (IsWaitingFor q) (sym same) (here, h.2, waits.1),
     )
 
--- the first answer past what was looked at
-module _ (r : PartRun) (events : List Event) (looked call place : ℕ) (same : events ≡ r.journal) (first : answered_from (looked + 1) call (drop looked events) ≡ Some place) where
-  first_there : (looked < place) × ((e : Event) × (at_number place r.journal ≡ Some e) × (is_some (answer_at call e) ≡ true))
-  first_there = answer_there looked call place r.journal (ap (λ (l : List Event). answered_from (looked + 1) call (drop looked l)) (sym same) ∙ first)
+-- the first answer after the events that were looked at
+module _ (r : PartRun) (events : List Event) (looked call position : ℕ) (same : events ≡ r.journal) (first : answered_from (looked + 1) call (drop looked events) ≡ Some position) where
+  first_there : (looked < position) × ((e : Event) × (at_number position r.journal ≡ Some e) × (is_some (answer_at call e) ≡ true))
+  first_there = answer_there looked call position r.journal (ap (λ (l : List Event). answered_from (looked + 1) call (drop looked l)) (sym same) ∙ first)
 
-  pub look_place : (0 < place) × (place ≤ length r.journal)
-  look_place = low_at place r.journal first_there.1.0 first_there.1.1
+  pub look_position : (0 < position) × (position ≤ length r.journal)
+  look_position = low_at position r.journal first_there.1.0 first_there.1.1
 
-  pub look_answers : (e : Event) → at_number place r.journal ≡ Some e → is_some (answer_at call e) ≡ true
+  pub look_answers : (e : Event) → at_number position r.journal ≡ Some e → is_some (answer_at call e) ≡ true
   look_answers e there = subst (λ (x : Event). is_some (answer_at call x) ≡ true) (same_inside (sym first_there.1.1 ∙ there)) first_there.1.2
 
-pub look_gives : (r : PartRun) (events : List Event) (w : Waiting) (receipt : Receipt) (place : ℕ) (e : Event) → events ≡ r.journal
-    → answered_from (w.looked + 1) w.call (drop w.looked events) ≡ Some place → at_number place r.journal ≡ Some e
-    → receipt.call ≡ w.call → receipt.at_invoke ≡ w.at_invoke → receipt.at_reply ≡ place → answer_at w.call e ≡ Some receipt.answer
+pub look_gives : (r : PartRun) (events : List Event) (w : Waiting) (receipt : Receipt) (position : ℕ) (e : Event) → events ≡ r.journal
+    → answered_from (w.looked + 1) w.call (drop w.looked events) ≡ Some position → at_number position r.journal ≡ Some e
+    → receipt.call ≡ w.call → receipt.at_invoke ≡ w.at_invoke → receipt.at_reply ≡ position → answer_at w.call e ≡ Some receipt.answer
     → LookGives r.journal w (Ok receipt)
-look_gives r events w receipt place e same first there call invoke reply answer' = (
+look_gives r events w receipt position e same first there call invoke reply answer' = (
   call,
   invoke,
-  subst (λ (n : ℕ). w.looked < n) (sym reply) (first_there r events w.looked w.call place same first).0,
+  subst (λ (n : ℕ). w.looked < n) (sym reply) (first_there r events w.looked w.call position same first).0,
   subst (λ (n : ℕ). IsAt r.journal n (IsReply w.call receipt.answer)) (sym reply) (record { event = e; there = there; is = answer' }),
 )
 

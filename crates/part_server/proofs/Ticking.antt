@@ -1,4 +1,4 @@
--- What a turn does to stamps and to the clock of the seat that takes it.
+-- How a turn changes the stamps and the clock of the seat that takes it.
 use Rattle.std.proofs.Common.{◌≡◌, ◌⊎◌, ℕ, zero, suc, ◌<◌, ◌≤◌, Bool, true, false, true≢false, List, [], ◌∷◌, ◌++◌, length, get_or, sym, ap, ◌∙◌, subst, arith, length-append, append_assoc, append-nil}
 use Rattle.std.proofs.Math.Seq.{get_or-append_seam}
 use Rattle.std.proofs.lemmas.Bool.Decides.{nat_tests}
@@ -24,7 +24,7 @@ latest_left a b = grind (arith, nat_tests)
 pub latest_right : (a b : ℕ) → b ≤ latest a b
 latest_right a b = grind (arith, nat_tests)
 
--- ---- stamps that rise
+-- ---- rising stamps
 
 below_last : (low stamp : ℕ) (stamps : List ℕ) → IsRisingFrom low (stamp ∷ stamps) → low < last_of (stamp ∷ stamps)
 below_last low stamp [] h = h.0
@@ -41,27 +41,27 @@ rising_last low (s ∷ next ∷ stamps) stamp h past last =
     let here : last_of (next ∷ stamps) < stamp = last in
     (h.0, rising_last s (next ∷ stamps) stamp h.1 (omega arith) here)
 
-pub last_stamp : (stamps : List ℕ) (stamp place : ℕ) → place ≡ suc (length stamps) → stamp_of (stamps ++ stamp ∷ []) place ≡ stamp
-last_stamp stamps stamp place e = ap (λ (n : ℕ). stamp_of (stamps ++ stamp ∷ []) n) e ∙ get_or-append_seam (0 ∷ stamps) stamp [] 0
+pub last_stamp : (stamps : List ℕ) (stamp number : ℕ) → number ≡ suc (length stamps) → stamp_of (stamps ++ stamp ∷ []) number ≡ stamp
+last_stamp stamps stamp number e = ap (λ (n : ℕ). stamp_of (stamps ++ stamp ∷ []) n) e ∙ get_or-append_seam (0 ∷ stamps) stamp [] 0
 
--- a stamp above another stays where stamps are added
+-- a stamp that is larger than a number stays so if stamps are added
 above_still : (xs ys : List ℕ) (k n : ℕ) → n < get_or xs k 0 → n < get_or (xs ++ ys) k 0
 above_still [] ys k n h = absurd (omega arith)
 above_still (x ∷ xs) ys zero n h = h
 above_still (x ∷ xs) ys (suc k) n h = above_still xs ys k n h
 
-still_above : (xs ys : List ℕ) (place n : ℕ) → IsPrefix xs ys → n < stamp_of xs place → n < stamp_of ys place
-still_above xs ys place n p h = subst (λ (l : List ℕ). n < stamp_of l place) p.1 (above_still (0 ∷ xs) p.0 place n h)
+still_above : (xs ys : List ℕ) (number n : ℕ) → IsPrefix xs ys → n < stamp_of xs number → n < stamp_of ys number
+still_above xs ys number n p h = subst (λ (l : List ℕ). n < stamp_of l number) p.1 (above_still (0 ∷ xs) p.0 number n h)
 
--- ---- what calls do to a seat's clock, one after another
+-- ---- how several calls change a seat's clock
 
 pub ticks_same : (v : DeskView) → Ticks v v
 ticks_same v = record {
   stamps = prefix_refl v.stamps;
   clock = omega arith;
-  places = [];
+  numbers = [];
   made = sym (append-nil v.made);
-  later = All-nil (λ place. v.clock < stamp_of v.stamps place);
+  later = All-nil (λ number. v.clock < stamp_of v.stamps number);
 }
 
 pub ticks_more : (u v w : DeskView) → Ticks u v → Ticks v w → Ticks u w
@@ -71,22 +71,22 @@ ticks_more u v w a b =
     record {
       stamps = prefix_trans u.stamps v.stamps w.stamps a.stamps b.stamps;
       clock = omega arith;
-      places = a.places ++ b.places;
-      made = b.made ∙ ap (λ (xs : List ℕ). xs ++ b.places) a.made ∙ append_assoc u.made a.places b.places;
-      later = All-append (λ place. u.clock < stamp_of w.stamps place) a.places b.places
-          (All-weaker (λ place. u.clock < stamp_of v.stamps place) (λ place. u.clock < stamp_of w.stamps place)
-          (λ place h. still_above v.stamps w.stamps place u.clock b.stamps h) a.places a.later)
-          (All-weaker (λ place. v.clock < stamp_of w.stamps place) (λ place. u.clock < stamp_of w.stamps place)
-          (λ place h. before (stamp_of w.stamps place) first h) b.places b.later);
+      numbers = a.numbers ++ b.numbers;
+      made = b.made ∙ ap (λ (xs : List ℕ). xs ++ b.numbers) a.made ∙ append_assoc u.made a.numbers b.numbers;
+      later = All-append (λ number. u.clock < stamp_of w.stamps number) a.numbers b.numbers
+          (All-weaker (λ number. u.clock < stamp_of v.stamps number) (λ number. u.clock < stamp_of w.stamps number)
+          (λ number h. still_above v.stamps w.stamps number u.clock b.stamps h) a.numbers a.later)
+          (All-weaker (λ number. v.clock < stamp_of w.stamps number) (λ number. u.clock < stamp_of w.stamps number)
+          (λ number h. before (stamp_of w.stamps number) first h) b.numbers b.later);
     }
   where
     before : (n : ℕ) → u.clock ≤ v.clock → v.clock < n → u.clock < n
     before n h i = omega arith
 
--- ---- what a turn does to stamps
+-- ---- how a turn changes stamps
 
 module _ (es es' : List Event) (ss ss' : List ℕ) (m n : ℕ) (was : IsStamped es ss) where
-  -- one event more, with one stamp more
+  -- one more event, with one more stamp
   module _ (e : Event) (more : es' ≡ es ++ e ∷ []) (once : StampsOnce true ss m ss' n) where
     past_last : last_of ss < n
     past_last = let l = latest_left (last_of ss) m in let p = once.0 in omega arith
@@ -119,7 +119,7 @@ module _ (es es' : List Event) (ss ss' : List ℕ) (m n : ℕ) (was : IsStamped 
       ap (λ (l : List Event). entries l ss') more ∙ (ap (λ (l : List ℕ). entries (es ++ e ∷ []) l) once.1 ∙ entries_last es ss e n was.count),
     )
 
-  -- nothing more
+  -- nothing was added
   module _ (same : es' ≡ es) (once : StampsOnce false ss m ss' n) where
     pub same_ends : EndsStamped false ss m es' ss' n
     same_ends = record {
@@ -133,7 +133,7 @@ module _ (es es' : List Event) (ss ss' : List ℕ) (m n : ℕ) (was : IsStamped 
     pub same_grown : IsGrown false (entries es ss) (entries es' ss')
     same_grown = ap (λ (l : List Event). entries l ss') same ∙ ap (λ (l : List ℕ). entries es l) once.1
 
--- what became of a part with its stamps
+-- how a part with its stamps was changed
 dated : (b : Bool) (x y : DatedRun) (m n : ℕ) → IsStamped x.run.journal x.stamps → GrowsBy b x.run y.run → StampsOnce b x.stamps m y.stamps n → Dates b x y m n
 dated true x y m n was more once = record {
   was = was;
@@ -155,7 +155,7 @@ step_dates {b} {is_added} {x} {r} {ss} q ss' m n is was grows same once =
     subst (λ (y : DatedRun). Dates b y (record { run = q; stamps = ss' }) m n) is
     (dated b (record { run = r; stamps = ss }) (record { run = q; stamps = ss' }) m n was grows (subst (λ (c : Bool). StampsOnce c ss m ss' n) same once))
 
--- a look, and then a step
+-- a look, followed by a step
 pub then_dates : {b : Bool} {x y : DatedRun} {m k n : ℕ} → Dates false x x m k → Dates b x y k n → Dates b x y m n
 then_dates {b} {x} {y} {m} {k} {n} look step =
     let first : m ≤ k = look.ends.risen in
@@ -178,7 +178,7 @@ then_dates {b} {x} {y} {m} {k} {n} look step =
 pub raised_clocked : (v : TurnView) (m n : ℕ) → m ≤ n → Clocked (timed_view v m) → Clocked (timed_view v n)
 raised_clocked v m n h c = record { stamped = c.stamped; last = let l : last_of (stamps_of v.seen) ≤ m = c.last in omega arith }
 
--- a seat that took another in
+-- a seat into which another was joined
 pub joined_clocked : (v w x : TurnView) (m n k : ℕ) → (x.seen ≡ v.seen) ⊎ (x.seen ≡ w.seen) → k ≡ latest m n → Clocked (timed_view v m) → Clocked (timed_view w n)
     → Clocked (timed_view x k)
 joined_clocked v w x m n k one raised a b =

@@ -1,4 +1,4 @@
--- One turn of a desk's seat, from the taking of the part to the end.
+-- One turn of a desk's seat, from taking the part to the end.
 use Rattle.std.proofs.Common.{◌≡◌, ℕ, ◌<◌, ◌≤◌, ◌^◌, Bool, true, false, List, [], ◌∷◌, ◌++◌, length, refl, sym, ap, ◌∙◌, subst, arith, append-nil}
 use Rattle.std.proofs.lemmas.List.Elements.{All-nil, All-cons}
 use mathlib.Core.List.{IsPrefix}
@@ -8,7 +8,7 @@ use Rattle.clocks.specs.Clocks.{last_of}
 use Rattle.desk_like.specs.Desks.{Accounts}
 use Rattle.desk_like.specs.Stamps.{Clocked, IsStamped, Ticks, stamp_of}
 use Rattle.part_core.specs.Kept.{IsKept}
-use Rattle.turn_lock.specs.Seats.{IsAlone, Tally}
+use Rattle.turn_lock.specs.Seats.{IsAlone, MadeIsSeen}
 use Rattle.turn_lock.specs.Views.{took, committed, gave}
 use Rattle.turn_lock.proofs.Prefixes.{prefix_length, prefix_trans}
 use Rattle.part_server.specs.declared.stamped.Stamped.{Stamped}
@@ -39,18 +39,18 @@ module _ (v w : TurnView) (x : DatedRun) (stamped : IsStamped x.run.journal x.st
       let long : length listed ≡ length x.run.journal = listed_length x stamped in
       omega arith
 
-  -- an entry more is committed
+  -- one more entry is committed
   module _ (b : Bool) (yes : b ≡ true) (grown : IsGrown b v.taken listed) where
     pub added_entry : (entry : Stamped) × (listed ≡ v.taken ++ entry ∷ [])
     added_entry = subst (λ (c : Bool). IsGrown c v.taken listed) yes grown
 
     module _ (given : w ≡ gave (committed v listed)) where
       abbrev shown : List Event → ℕ → Vw
-      shown journal place = record {
+      shown journal number = record {
         origin = v.origin;
         seen = journal;
-        told = events_of v.told;
-        made = v.made ++ place ∷ [];
+        pending = events_of v.pending;
+        made = v.made ++ number ∷ [];
         start = v.start;
         share = v.share;
         has = false;
@@ -85,7 +85,7 @@ module _ (v w : TurnView) (x : DatedRun) (stamped : IsStamped x.run.journal x.st
       pub same_stamps : stamps_of w.seen ≡ x.stamps
       same_stamps = seen_stamps (ap (λ (y : TurnView). y.seen) given ∙ sym same_entries)
 
--- what the end of a turn asks
+-- what the end of a turn requires
 pub turn_grown : (v z : TurnView) {x y : DatedRun} {b is_added : Bool} {m n : ℕ} → z ≡ took v (entries x.run.journal x.stamps) → is_added ≡ b → Dates b x y m n
     → IsGrown is_added z.taken (entries y.run.journal y.stamps)
 turn_grown v z {x} {y} {b} {is_added} {m} {n} taken same d =
@@ -94,7 +94,7 @@ turn_grown v z {x} {y} {b} {is_added} {m} {n} taken same d =
 
 -- ---- a turn
 
--- The seat knew v and its clock was m. It took x, of which the turn made y, and then its clock was n. Behind the end it knows w.
+-- The seat knew v at clock m. It took x, which the turn changed to y. After the turn its clock is n and it knows w.
 pub record Turn (v w : TurnView) (x y : DatedRun) (b : Bool) (m n : ℕ) : Type 0 where
   pub begins : IsPrefix v.seen (entries x.run.journal x.stamps)
   pub alone : IsAlone v → entries x.run.journal x.stamps ≡ v.seen
@@ -102,11 +102,11 @@ pub record Turn (v w : TurnView) (x y : DatedRun) (b : Bool) (m n : ℕ) : Type 
   pub view : journal_view w ≡ ended b (took (journal_view v) x.run.journal) y.run.journal
   pub seen : events_of w.seen ≡ y.run.journal
   pub stamps : stamps_of w.seen ≡ y.stamps
-  pub made : Tally (journal_view w)
+  pub made : MadeIsSeen (journal_view w)
 
 pub turn : (v z w : TurnView) (x y : DatedRun) (b is_added : Bool) (m n : ℕ) → z ≡ took v (entries x.run.journal x.stamps) → IsPrefix v.seen (entries x.run.journal x.stamps)
     → (IsAlone v → entries x.run.journal x.stamps ≡ v.seen) → is_added ≡ b → Dates b x y m n → journal_view w ≡ ended is_added (journal_view z) y.run.journal
-    → events_of w.seen ≡ y.run.journal → stamps_of w.seen ≡ y.stamps → Tally (journal_view w) → Turn v w x y b m n
+    → events_of w.seen ≡ y.run.journal → stamps_of w.seen ≡ y.stamps → MadeIsSeen (journal_view w) → Turn v w x y b m n
 turn v z w x y b is_added m n taken begins alone same dates view seen stamps made = record {
   begins = begins;
   alone = alone;
@@ -120,7 +120,7 @@ turn v z w x y b is_added m n taken begins alone same dates view seen stamps mad
 }
 
 module _ {v w : TurnView} {x y : DatedRun} {b : Bool} {m n : ℕ} (t : Turn v w x y b m n) where
-  -- what the seat may claim behind the end
+  -- what the seat may claim after the end
   pub turn_start : v.start ≡ 0 → w.start ≡ 0
   turn_start none =
       (ended_accounts (journal_view v) (took (journal_view v) x.run.journal) (journal_view w) (stamps_of w.seen) n b x.run.journal y.run.journal none refl t.view t.made).0
@@ -145,18 +145,18 @@ module _ {v w : TurnView} {x y : DatedRun} {b : Bool} {m n : ℕ} (t : Turn v w 
   ticks_by true is view = record {
     stamps = begun;
     clock = t.dates.ends.risen;
-    places = length y.run.journal ∷ [];
+    numbers = length y.run.journal ∷ [];
     made = ap (λ (u : Vw). u.made) view;
-    later = All-cons (λ place. m < stamp_of (stamps_of w.seen) place) (length y.run.journal) []
+    later = All-cons (λ number. m < stamp_of (stamps_of w.seen) number) (length y.run.journal) []
         (subst (λ (l : List ℕ). m < stamp_of l (length y.run.journal)) (sym t.stamps) (t.dates.ends.added is))
-        (All-nil (λ place. m < stamp_of (stamps_of w.seen) place));
+        (All-nil (λ number. m < stamp_of (stamps_of w.seen) number));
   }
   ticks_by false is view = record {
     stamps = begun;
     clock = t.dates.ends.risen;
-    places = [];
+    numbers = [];
     made = ap (λ (u : Vw). u.made) view ∙ sym (append-nil v.made);
-    later = All-nil (λ place. m < stamp_of (stamps_of w.seen) place);
+    later = All-nil (λ number. m < stamp_of (stamps_of w.seen) number);
   }
 
   ticks_now : Ticks (timed_view v m) (timed_view w n)
@@ -173,7 +173,7 @@ taken_through old s x m is stamped begins alone spec home = record {
   home = home;
 }
 
--- what was looked at before is in what was taken
+-- what was looked at before is part of what was taken
 pub looked_within : {old : SeatValue} {s : TurnValue} {m : ℕ} (x : DatedRun) (spec : PartSpec) (waiting : Waiting) → record { seat = s; clock = m } ≡ old
     → IsPrefix s.me.0.seen (entries x.run.journal x.stamps) → IsWaitingIn spec (timed_view old.seat.me.0 old.clock) waiting → waiting.looked ≤ length x.run.journal
 looked_within {old} {s} {m} x spec waiting is begins waits =
@@ -182,7 +182,7 @@ looked_within {old} {s} {m} x spec waiting is begins waits =
     let all : length (entries x.run.journal x.stamps) ≤ length x.run.journal = entries_within x.run.journal x.stamps in
     omega arith
 
--- behind the end of the turn of the seat s, as callers saw it and see it
+-- after the end of the turn of the seat s, as callers saw it before and see it now
 module _ {old : SeatValue} {s : TurnValue} {w : TurnView} {x y : DatedRun} {b : Bool} {m n : ℕ} (is : record { seat = s; clock = m } ≡ old) (t : Turn s.me.0 w x y b m n) where
   pub turn_ticks : Ticks (timed_view old.seat.me.0 old.clock) (timed_view w n)
   turn_ticks = subst (λ (o : SeatValue). Ticks (timed_view o.seat.me.0 o.clock) (timed_view w n)) is (ticks_now t)

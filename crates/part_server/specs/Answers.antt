@@ -13,7 +13,7 @@ use Rattle.desk_like.specs.Desks.{IsInvoke}
 abbrev pub IsShort : Answer → Type 0
 IsShort a = length (answer_words a) ≤ MOST_ANSWER_WORDS
 
--- what an event answers is short
+-- an event's answers are short
 abbrev pub AnswersShortly : Event → Type 0
 AnswersShortly e = (call : ℕ) (a : Answer) → answer_at call e ≡ Some a → IsShort a
 
@@ -22,7 +22,7 @@ abbrev pub is_invocation : ℕ → ℕ → Event → Bool
 is_invocation call thread (event.Invoke c t o a) = c == call && t == thread
 is_invocation call thread _ = false
 
--- it is the call of some operation
+-- the event invokes this call of this thread, for some operation
 abbrev pub InvokesCall : ℕ → ℕ → Event → Type 0
 InvokesCall call thread e = (o : Op) × IsInvoke call thread o e
 
@@ -31,7 +31,7 @@ abbrev pub Invokes : Event → Type 0
 Invokes (event.Invoke c t o a) = Unit {0}
 Invokes _ = ⊥
 
--- of the call with this number
+-- the event invokes the call with this number
 abbrev pub Numbers : ℕ → Event → Type 0
 Numbers call (event.Invoke c t o a) = c ≡ call
 Numbers call _ = ⊥

@@ -5,11 +5,11 @@ use Rattle.turn_lock.specs.Seats.{IsSeatOf}
 use Rattle.part_server.specs.declared.desk.PartDesk.{PartDesk}
 use Rattle.part_server.specs.Turns.{SeatValue, timed_view}
 
--- what the desk's part is made from
+-- the spec of the desk's part
 abbrev pub desk_spec : PartDesk → PartSpec
 desk_spec desk = desk.turn.home
 
--- the seat is one of the desk's
+-- the seat belongs to the desk
 abbrev pub IsDeskSeat : PartDesk → SeatValue → Type 0
 IsDeskSeat desk seat = IsSeatOf desk.turn seat.seat
 

@@ -1,4 +1,4 @@
--- A part's events with their stamps, as the turn of a desk lists them.
+-- A part's events with their stamps: the entries of a desk's turn.
 use Rattle.std.specs.Prelude.{ℕ, List, [], ◌∷◌}
 use Rattle.nook_data.specs.declared.steps.Event.{Event}
 use Rattle.nook_data.specs.declared.scenario.PartSpec.{PartSpec}
@@ -29,12 +29,12 @@ stamps_of (entry ∷ entries) = entry.stamp ∷ stamps_of entries
 abbrev pub TurnView : Type 0
 TurnView = View Stamped PartSpec
 
--- of what a seat of the turn knows, all but the stamps
+-- what a seat of the turn knows, without the stamps
 abbrev pub journal_view : TurnView → View Event PartSpec
 journal_view v = record {
   origin = v.origin;
   seen = events_of v.seen;
-  told = events_of v.told;
+  pending = events_of v.pending;
   made = v.made;
   start = v.start;
   share = v.share;

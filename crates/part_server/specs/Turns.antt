@@ -1,4 +1,4 @@
--- What one turn does to a part, and to what a seat of its desk knows.
+-- How one turn changes a part, and what a seat of its desk knows.
 use Rattle.std.specs.Prelude.{◌≡◌, ℕ, suc, ◌+◌, ◌<◌, ◌≤◌, Bool, true, false, Option, Some, None, Result, Ok, Err, List, []}
 use Rattle.std.specs.Prelude.{◌∷◌, ◌++◌, drop, length}
 use mathlib.Core.List.{IsPrefix}
@@ -29,9 +29,9 @@ use Rattle.part_server.specs.declared.waiting.Progress.{Progress}
 use Rattle.part_server.specs.declared.waiting.Progress.TheVariants as progress
 use Rattle.part_server.specs.declared.waiting.Waiting.{Waiting}
 
--- ---- what a turn does to the part
+-- ---- how a turn changes the part
 
--- the journal has one event more, which is such
+-- the journal has one more event, which has this property
 pub record Grows (old new : PartRun) (Is : Event → Type 0) : Type 0 where
   pub event : Event
   pub journal : new.journal ≡ old.journal ++ event ∷ []
@@ -46,7 +46,7 @@ IsWaitingFor r w = HasOpen r.state w.thread w.call × (w.looked ≡ length r.jou
 abbrev pub IsGoingOn : PartRun → Waiting → Type 0
 IsGoingOn r w = HasOpen r.state w.thread w.call × (MOST_ANSWER_WORDS ≤ w.room)
 
--- they wait for one call
+-- both wait for the same call
 abbrev pub IsSameCall : Waiting → Waiting → Type 0
 IsSameCall w next = (next.call ≡ w.call) × (next.thread ≡ w.thread) × (next.at_invoke ≡ w.at_invoke)
 
@@ -64,7 +64,7 @@ IsOwn (step.Burst context) = Unit {0}
 IsOwn step.Stage = Unit {0}
 IsOwn (step.Arrive frame) = ⊥
 
--- an answer to an open call is looked for among the events that were not looked at
+-- the events not yet looked at are searched for an answer to an open call
 abbrev pub LookGives : List Event → Waiting → Result Receipt Waiting → Type 0
 LookGives journal w (Ok receipt) =
     (receipt.call ≡ w.call) × (receipt.at_invoke ≡ w.at_invoke) × (w.looked < receipt.at_reply)
@@ -79,7 +79,7 @@ ReachedGives journal w (progress.Answered receipt) =
 ReachedGives journal w (progress.Open next) =
     (next ≡ w) × IsAt journal (length journal) (λ e. answer_at w.call e ≡ None)
 
--- how far a call got in its invocation, the last event of a journal
+-- how far a call got in its invocation, which is the last event of a journal
 abbrev pub InvokedGives : List Event → ℕ → Progress → Type 0
 InvokedGives journal thread (progress.Answered receipt) =
     (receipt.at_invoke ≡ length journal) × (receipt.at_reply ≡ length journal)
@@ -111,7 +111,7 @@ GoOnGives old new w (Ok (progress.Open next)) = Grows old new IsOther × IsSameC
 GoOnGives old new w (Err (refused.NoMemory (Some call))) = (new ≡ old) × (call ≡ w.call)
 GoOnGives old new w (Err _) = ⊥
 
--- a thread's open call is looked for
+-- a thread's open call is found
 abbrev pub FindGives : PartRun → ℕ → Result Waiting DeskRefused → Type 0
 FindGives r thread (Ok w) =
     (w.thread ≡ thread) × IsWaitingFor r w × IsAt r.journal w.at_invoke (InvokesCall w.call thread)
@@ -125,7 +125,7 @@ ArriveGives old new frame (Err refused.TooManyArrivals) = (new ≡ old) × (old.
 ArriveGives old new frame (Err (refused.NoMemory None)) = new ≡ old
 ArriveGives old new frame (Err _) = ⊥
 
--- the next step is taken, where there is one
+-- the next step is taken, if there is one
 abbrev pub SettleGives : PartRun → PartRun → Result Bool NoMemory → Type 0
 SettleGives old new (Ok true) = Grows old new IsOther
 SettleGives old new (Ok false) = (new ≡ old) × (next_any old.state ≡ None)
@@ -136,19 +136,19 @@ abbrev pub took_step : Result Bool NoMemory → Bool
 took_step (Ok is_taken) = is_taken
 took_step (Err e) = false
 
--- a turn added an entry to the list that was taken, or left it as it was
+-- a turn added an entry to the list that was taken, or left the list as it was
 abbrev pub IsGrown : {E : Type 0} → Bool → List E → List E → Type 0
 IsGrown {E} true taken now = (entry : E) × (now ≡ taken ++ entry ∷ [])
 IsGrown false taken now = now ≡ taken
 
--- ---- what a turn does to the stamps, and to the clock of its seat
+-- ---- how a turn changes the stamps, and the clock of its seat
 
--- the clock was set past its own time and the last stamp, which made one stamp more, or it was raised to the last stamp
+-- the clock was set past its time and the last stamp, which made a new stamp, or it was raised to the last stamp
 abbrev pub StampsOnce : Bool → List ℕ → ℕ → List ℕ → ℕ → Type 0
 StampsOnce true old clock new now = (now ≡ suc (latest (last_of old) clock)) × (new ≡ old ++ now ∷ [])
 StampsOnce false old clock new now = (now ≡ latest clock (last_of old)) × (new ≡ old)
 
--- an event that was added is stamped later than the clock was, and the clock is no earlier than any stamp
+-- if an event was added, its stamp is later than the clock was; the clock is now no earlier than any stamp
 pub record EndsStamped (is_added : Bool) (taken : List ℕ) (clock : ℕ) (journal : List Event) (stamps : List ℕ)
     (now : ℕ) : Type 0 where
   pub begins : IsPrefix taken stamps
@@ -157,7 +157,7 @@ pub record EndsStamped (is_added : Bool) (taken : List ℕ) (clock : ℕ) (journ
   pub risen : clock ≤ now
   pub added : is_added ≡ true → clock < stamp_of stamps (length journal)
 
--- what was taken had a stamp for each event, and so has what became of it: that, or one event more with its stamp
+-- the part that was taken had a stamp for each event; it stayed the same, or gained one event with its stamp
 pub record Dates (is_added : Bool) (old new : DatedRun) (clock now : ℕ) : Type 0 where
   pub was : IsStamped old.run.journal old.stamps
   pub grown : IsGrown is_added (entries old.run.journal old.stamps) (entries new.run.journal new.stamps)
@@ -175,16 +175,16 @@ pub record SeatValue : Type 0 where
   pub seat : TurnValue
   pub clock : ℕ
 
--- a seat ended its turn, with which the journal is this: it committed an event, or gave the part back
+-- a seat ended its turn with this journal: it committed an event, or gave the part back
 abbrev pub ended : Bool → View Event PartSpec → List Event → View Event PartSpec
 ended true v journal = gave (committed v journal)
 ended false v journal = gave v
 
--- of what a seat knows, what callers of a desk see
+-- what callers of a desk see of what a seat knows
 abbrev pub seen_view : View Event PartSpec → List ℕ → ℕ → DeskView
 seen_view v stamps clock = record { seen = v.seen; made = v.made; share = v.share; stamps = stamps; clock = clock }
 
--- of what a seat of the turn knows, that and the time of the seat's clock
+-- the same for a seat of the turn, with the time of its clock
 abbrev pub timed_view : TurnView → ℕ → DeskView
 timed_view v clock = seen_view (journal_view v) (stamps_of v.seen) clock
 
@@ -192,12 +192,12 @@ timed_view v clock = seen_view (journal_view v) (stamps_of v.seen) clock
 abbrev pub IsSeen : Option PartSpec → List Event → Type 0
 IsSeen home seen = (spec : PartSpec) → home ≡ Some spec → IsRun spec seen
 
--- the call is open where the seat has seen all, all was looked at, and there is room for its answer
+-- the call is open after all that the seat has seen, all of that was looked at, and there is room for the answer
 abbrev pub IsWaitingIn : PartSpec → DeskView → Waiting → Type 0
 IsWaitingIn spec v w =
     HasOpen (state_seen spec v) w.thread w.call × (w.looked ≡ length v.seen) × (MOST_ANSWER_WORDS ≤ w.room)
 
--- ---- what a turn does to what a seat knows
+-- ---- how a turn changes what a seat knows
 
 -- an operation of a thread is invoked
 abbrev pub InvokeEnds : PartSpec → DeskView → DeskView → ℕ → Op → Result Progress DeskRefused → Type 0
@@ -216,20 +216,20 @@ FinishEnds spec old new w (Err (refused.NoMemory (Some call))) =
     Waits old new × HasOpen (state_seen spec new) w.thread w.call × (call ≡ w.call)
 FinishEnds spec old new w (Err _) = ⊥
 
--- one turn of that
+-- one turn of such a wait
 abbrev pub AdvanceEnds : PartSpec → DeskView → DeskView → Waiting → Result Progress DeskRefused → Type 0
 AdvanceEnds spec old new w (Ok (progress.Answered receipt)) = FinishEnds spec old new w (Ok receipt)
 AdvanceEnds spec old new w (Ok (progress.Open next)) = Waits old new × IsSameCall w next × IsWaitingIn spec new next
 AdvanceEnds spec old new w (Err e) = FinishEnds spec old new w (Err e)
 
--- a thread's open call is looked for
+-- a thread's open call is found
 abbrev pub FindEnds : PartSpec → DeskView → DeskView → ℕ → Result Waiting DeskRefused → Type 0
 FindEnds spec old new thread (Ok w) =
     AddsNothing old new × (w.thread ≡ thread) × IsWaitingIn spec new w
     × IsAt new.seen w.at_invoke (InvokesCall w.call thread)
 FindEnds spec old new thread (Err e) = ResumeEnds spec old new thread (Err e)
 
--- the next step is taken, where there is one
+-- the next step is taken, if there is one
 abbrev pub SettlesOnce : PartSpec → DeskView → DeskView → Result Bool NoMemory → Type 0
 SettlesOnce spec old new (Ok true) = Waits old new
 SettlesOnce spec old new (Ok false) = AddsNothing old new × (next_any (state_seen spec new) ≡ None)

@@ -1,4 +1,4 @@
-//! Looking for answers and invocations in a journal.
+//! Finds answers and invocations in a journal.
 
 ghost use Rattle.std.specs.Prelude.{◌≡◌, ◌+◌, ◌≤◌, None, Some, MatchOption, drop, false, length};
 ghost use Rattle.std.specs.List.{list_any};
@@ -8,27 +8,27 @@ ghost use Rattle.part_server.specs.Answers.{InvokesCall, is_invocation};
 
 use nook_data::steps::Event;
 
-/// The place, from 1, of the first event behind the first `looked` that answers a call.
+/// The number, from 1, of the first event after the first `looked` events that answers a call.
 pub fn first_answer(events: &[Event], looked: usize, call: u32) -> Option<u64>
     requires { looked ≤ length events.now }
     ensures { result ≡ answered_from (looked + 1) call (drop looked events.now) }
 {
-    for place in looked..events.len() {
-        if events[place].answer_to(call).is_some() {
-            return Some(place as u64 + 1);
+    for number in looked..events.len() {
+        if events[number].answer_to(call).is_some() {
+            return Some(number as u64 + 1);
         }
     }
     None
 }
 
-/// The place, from 1, of the invocation of a thread's call.
+/// The number, from 1, of the event that invokes a thread's call.
 pub fn invocation(events: &[Event], call: u32, thread: u8) -> Option<u64>
     ensures { MatchOption result (list_any (is_invocation call thread) events.now ≡ false)
-        (λ place. IsAt events.now place (InvokesCall call thread)) }
+        (λ number. IsAt events.now number (InvokesCall call thread)) }
 {
-    for place in 0..events.len() {
-        if invokes(&events[place], call, thread) {
-            return Some(place as u64 + 1);
+    for number in 0..events.len() {
+        if invokes(&events[number], call, thread) {
+            return Some(number as u64 + 1);
         }
     }
     None

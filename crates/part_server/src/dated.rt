@@ -1,4 +1,4 @@
-//! What a turn keeps: a part and the stamps of its events, and what a caller does with both while it has the turn.
+//! The value that a desk's lock keeps: a part and the stamps of its events. A caller uses both while it has the turn.
 
 ghost use Rattle.std.specs.Prelude.{◌≡◌, ◌<◌, ◌≤◌, false, is_ok, length, true};
 ghost use Rattle.desk_like.specs.Stamps.{IsStamped};
@@ -8,7 +8,7 @@ ghost use Rattle.part_core.specs.Kept.{IsKept};
 ghost use Rattle.part_server.specs.Turns.{ArriveGives, Dates, FindGives, GoOnGives, InvokeGives, IsGoingOn, LookGives};
 ghost use Rattle.part_server.specs.Turns.{SettleGives, StampsOnce, took_step};
 
-use crate::held::Held;
+use crate::held::LockedPart;
 use crate::stamped::Stamped;
 use crate::waiting::{Progress, Waiting};
 use clocks::{Clock, Stamps};
@@ -21,11 +21,10 @@ use nook_data::scenario::PartSpec;
 use std::marker::Model;
 use turn_lock::Kept;
 
-/// A part with the stamps of its events. It stands for the events, each with its stamp, and its origin is what the part
-/// is made from.
+/// A part with the stamps of its events. It represents the events, each with its stamp; its origin is the part's spec.
 #[derive(Drop)]
 pub struct Dated {
-    held: Held,
+    held: LockedPart,
     stamps: Stamps,
 }
 
@@ -58,15 +57,15 @@ impl Kept for Dated {
 
 impl Dated {
     /// Takes a part with its stamps.
-    pub fn new(held: Held, stamps: Stamps) -> Dated
+    pub fn new(held: LockedPart, stamps: Stamps) -> Dated
         requires { IsStamped held.journal stamps }
         ensures { result ≡ record { run = held; stamps = stamps } }
     {
         Dated { held, stamps }
     }
 
-    /// Gives the part and its stamps.
-    pub fn open(self) -> (Held, Stamps)
+    /// Returns the part and its stamps.
+    pub fn open(self) -> (LockedPart, Stamps)
         ensures run { result.0 ≡ self.run }
         ensures stamps { result.1 ≡ self.stamps }
         ensures stamped { IsStamped self.run.journal self.stamps }
@@ -74,7 +73,7 @@ impl Dated {
         (self.held, self.stamps)
     }
 
-    /// The receipt for an open call, as `Held::look`. The clock is then no earlier than any stamp.
+    /// The receipt for an open call, as in `LockedPart::look`. The clock is then no earlier than any stamp.
     pub fn look(&self, clock: &mut Clock, waiting: Waiting) -> Result<Receipt, Waiting>
         requires looked { waiting.looked ≤ length self.now.run.journal }
         requires room { MOST_ANSWER_WORDS ≤ waiting.room }
@@ -82,12 +81,12 @@ impl Dated {
         ensures kept { IsKept self.now.run }
         ensures dates { Dates false self.now self.now clock.old clock.new }
     {
-        // Another seat may have added what was awaited.
+        // Another seat may have added the awaited event.
         clock.raise(&self.stamps.last());
         self.held.look(waiting)
     }
 
-    /// The thread's open call, as `Held::find`. The clock is then no earlier than any stamp.
+    /// The thread's open call, as in `LockedPart::find`. The clock is then no earlier than any stamp.
     pub fn find(
         &self,
         clock: &mut Clock,
@@ -122,7 +121,7 @@ impl Dated {
         invoked
     }
 
-    /// Takes a step for an open call, as `Held::go_on`, and stamps the event.
+    /// Takes a step for an open call, as in `LockedPart::go_on`, and stamps the event.
     pub fn go_on(&mut self, clock: &mut Clock, waiting: Waiting) -> Result<Progress, DeskRefused>
         requires { IsGoingOn self.old.run waiting }
         ensures gives { GoOnGives self.old.run self.new.run waiting result }
@@ -134,7 +133,7 @@ impl Dated {
         went_on
     }
 
-    /// A frame arrives, and the event is stamped. Tells whether the device's ring kept it.
+    /// Adds the arrival of a frame, and stamps the event. Returns whether the device's ring had room for it.
     pub fn arrive(&mut self, clock: &mut Clock, frame: Words) -> Result<bool, DeskRefused>
         requires net { same_class self.old.run.state.spec.class class.Net ≡ true }
         requires some { 1 ≤ length frame }
@@ -148,7 +147,7 @@ impl Dated {
         arrived
     }
 
-    /// Takes the part's next step, and stamps the event. Tells whether there was one.
+    /// Takes the part's next step, and stamps the event. Returns whether there was one.
     pub fn settle(&mut self, clock: &mut Clock) -> Result<bool, NoMemory>
         ensures gives { SettleGives self.old.run self.new.run result }
         ensures kept { IsKept self.new.run }
@@ -170,7 +169,7 @@ pub fn took_step(settled: Result<bool, NoMemory>) -> bool
     }
 }
 
-/// Stamps the event that was added, if one was. The clock is then no earlier than any stamp.
+/// Stamps the event, if one was added. The clock is then no earlier than any stamp.
 fn stamp(stamps: &mut Stamps, clock: &mut Clock, is_added: bool)
     ensures { StampsOnce is_added stamps.old clock.old stamps.new clock.new }
 {

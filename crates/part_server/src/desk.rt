@@ -1,4 +1,4 @@
-//! A part behind a desk.
+//! Desks for parts.
 
 ghost use Rattle.std.specs.Prelude.{◌≡◌, ◌<◌, ◌≤◌, None, [], length, true, false, IfOk, OnOk};
 ghost use mathlib.Core.List.{IsPrefix};
@@ -13,10 +13,10 @@ ghost use Rattle.part_server.specs.Desk.{IsDeskSeat, desk_spec, desk_view};
 ghost use Rattle.part_server.specs.Entries.{entries, events_of, journal_view, stamps_of};
 ghost use Rattle.part_server.specs.Turns.{AdvanceEnds, FindEnds, FinishEnds, InvokeEnds, IsGrown};
 ghost use Rattle.part_server.specs.Turns.{IsWaitingIn, SettlesOnce, ended, opening_view};
-ghost use Rattle.turn_lock.specs.Seats.{IsSeatOf, Tally, seat_view};
+ghost use Rattle.turn_lock.specs.Seats.{IsSeatOf, MadeIsSeen, seat_view};
 
 use crate::dated::{Dated, took_step};
-use crate::held::Held;
+use crate::held::LockedPart;
 use crate::seat::DeskSeat;
 use crate::waiting::{Progress, Waiting};
 use clocks::{Clock, Stamps};
@@ -31,34 +31,34 @@ use std::alloc::Global;
 use std::sync::Wait;
 use turn_lock::{Turn, TurnSeat};
 
-/// A part behind a desk. Threads share it by reference, and each works through a seat of its own.
+/// A part that threads call through a desk. They share it by reference, and each uses its own seat.
 ///
-/// No contract says that a call which waits ever returns, or in which order callers get their turn.
+/// No contract promises that a waiting call ever returns, or in which order callers get their turn.
 #[derive(Drop)]
 pub struct PartDesk {
     turn: Turn<Dated>,
 }
 
 impl PartDesk {
-    /// Makes a desk for a part that has taken no step, and its first seat. The seat is alone: until it is split, and
-    /// again once all that was split from it came back.
+    /// Makes a desk for a part that has taken no step, and the desk's first seat. That seat is alone until it is split,
+    /// and again once all that was split from it was joined into it.
     ///
-    /// At `NoMemory` the part is dropped.
+    /// On `NoMemory` the part is dropped.
     pub fn new(alloc: Global, part: Part) -> Result<(PartDesk, DeskSeat), NoMemory>
         requires { part.journal ≡ [] }
         ensures spec { IfOk result (λ made. desk_spec made.0 ≡ part.state.spec) }
         ensures seat { IfOk result (λ made. IsDeskSeat made.0 made.1) }
         ensures view { IfOk result (λ made. desk_view made.1 ≡ opening_view) }
     {
-        let (turn, seat) = Turn::new(alloc, Dated::new(Held::new(part), Stamps::new()))?;
+        let (turn, seat) = Turn::new(alloc, Dated::new(LockedPart::new(part), Stamps::new()))?;
         let clock = Clock::start();
         Ok((PartDesk { turn }, DeskSeat { seat, clock }))
     }
 
-    /// Goes on with the open call of a thread until it is answered, by this call or by another caller.
+    /// Continues a thread's open call until it is answered, by this call or by another caller.
     ///
-    /// `NoOpenCall` comes exactly where the thread has none, and adds nothing, as does `NoMemory` that names no call:
-    /// the room for the answer was refused. `NoMemory` that names a call leaves it open.
+    /// It returns `NoOpenCall` exactly if the thread has none. This adds nothing, and neither does a `NoMemory` that
+    /// names no call: there was no memory for the answer. A `NoMemory` that names a call leaves it open.
     pub fn resume<R: Wait>(
         &self,
         rt: &R,
@@ -70,11 +70,12 @@ impl PartDesk {
         ensures seat { IsDeskSeat self.now seat.new }
         ensures run { IsRun (desk_spec self.now) (desk_view seat.new).seen }
         ensures accounts { Accounts (desk_view seat.new) }
-        ensures ends { ResumeEnds (desk_spec self.now) (desk_view seat.old) (desk_view seat.new) thread result }
+        ensures ends { ResumeEnds (desk_spec self.now) (desk_view seat.old)
+            (desk_view seat.new) thread result }
         ensures clocked { Clocked (desk_view seat.new) }
         ensures ticks { Ticks (desk_view seat.old) (desk_view seat.new) }
     {
-        // What is so of a seat between two calls is so also where nothing is done.
+        // What holds for a seat between two calls also holds if nothing is done.
         let _ = &seat.seat;
         let Ok(room) = Room::new(alloc, MOST_ANSWER_WORDS) else {
             return Err(DeskRefused::NoMemory { call: None });
@@ -83,7 +84,7 @@ impl PartDesk {
         self.finish(rt, seat, waiting)
     }
 
-    /// Takes the part's next step until there is none. A `NoMemory` leaves the steps that were taken.
+    /// Takes the part's next step until there is none. On `NoMemory` the steps that were taken remain.
     pub fn settle<R: Wait>(&self, rt: &R, seat: &mut DeskSeat) -> Result<(), NoMemory>
         requires { IsDeskSeat self.now seat.old }
         ensures seat { IsDeskSeat self.now seat.new }
@@ -92,7 +93,8 @@ impl PartDesk {
         ensures waits { Waits (desk_view seat.old) (desk_view seat.new) }
         ensures clocked { Clocked (desk_view seat.new) }
         ensures ticks { Ticks (desk_view seat.old) (desk_view seat.new) }
-        ensures settled { OnOk result (next_any (state_seen (desk_spec self.now) (desk_view seat.new)) ≡ None) }
+        ensures settled { OnOk result
+            (next_any (state_seen (desk_spec self.now) (desk_view seat.new)) ≡ None) }
     {
         for _ in rt.forever() {
             if !self.settle_once(rt, seat)? {
@@ -102,8 +104,8 @@ impl PartDesk {
         unreachable!()
     }
 
-    /// Ends the desk and gives its part. Its journal begins with all that the seat has seen, and is just that where the
-    /// seat is alone.
+    /// Ends the desk and returns its part. The part's journal begins with all that the seat has seen, and is exactly
+    /// that if the seat is alone.
     ///
     /// It waits while another seat has the turn.
     pub fn close<R: Wait>(self, rt: &R, seat: DeskSeat) -> Part
@@ -119,11 +121,12 @@ impl PartDesk {
         held.into_part()
     }
 
-    /// Ends a turn: commits the event that was added in it, or gives the part back as it was taken.
+    /// Ends a turn: commits the event that it added, or gives the part back as it was taken.
     fn end_turn(&self, seat: &mut TurnSeat<Dated>, dated: Dated, is_added: bool)
         requires seat { IsSeatOf self.now.turn seat.old }
         requires turn { (seat_view seat.old).has ≡ true }
-        requires grown { IsGrown is_added (seat_view seat.old).taken (entries dated.run.journal dated.stamps) }
+        requires grown { IsGrown is_added (seat_view seat.old).taken
+            (entries dated.run.journal dated.stamps) }
         requires stamped { IsStamped dated.run.journal dated.stamps }
         requires home { dated.run.state.spec ≡ desk_spec self.now }
         requires kept { IsKept dated.run }
@@ -133,7 +136,7 @@ impl PartDesk {
         ensures free { (seat_view seat.new).has ≡ false }
         ensures seen { events_of (seat_view seat.new).seen ≡ dated.run.journal }
         ensures stamps { stamps_of (seat_view seat.new).seen ≡ dated.stamps }
-        ensures made { Tally (journal_view (seat_view seat.new)) }
+        ensures made { MadeIsSeen (journal_view (seat_view seat.new)) }
     {
         if is_added {
             self.turn.commit_and_give(seat, dated);
@@ -142,7 +145,7 @@ impl PartDesk {
         }
     }
 
-    /// One turn in which an operation is invoked.
+    /// One turn that invokes an operation.
     fn invoke<R: Wait>(
         &self,
         rt: &R,
@@ -157,7 +160,8 @@ impl PartDesk {
         ensures seat { IsDeskSeat self.now seat.new }
         ensures run { IsRun (desk_spec self.now) (desk_view seat.new).seen }
         ensures accounts { Accounts (desk_view seat.new) }
-        ensures ends { InvokeEnds (desk_spec self.now) (desk_view seat.old) (desk_view seat.new) thread op result }
+        ensures ends { InvokeEnds (desk_spec self.now) (desk_view seat.old)
+            (desk_view seat.new) thread op result }
         ensures clocked { Clocked (desk_view seat.new) }
         ensures ticks { Ticks (desk_view seat.old) (desk_view seat.new) }
     {
@@ -167,7 +171,7 @@ impl PartDesk {
         invoked
     }
 
-    /// One turn for an open call: its answer, where it has one by now, else a step.
+    /// One turn for an open call: it returns the answer if there is one by now, and otherwise takes a step.
     fn advance<R: Wait>(
         &self,
         rt: &R,
@@ -179,7 +183,8 @@ impl PartDesk {
         ensures seat { IsDeskSeat self.now seat.new }
         ensures run { IsRun (desk_spec self.now) (desk_view seat.new).seen }
         ensures accounts { Accounts (desk_view seat.new) }
-        ensures ends { AdvanceEnds (desk_spec self.now) (desk_view seat.old) (desk_view seat.new) waiting result }
+        ensures ends { AdvanceEnds (desk_spec self.now) (desk_view seat.old)
+            (desk_view seat.new) waiting result }
         ensures clocked { Clocked (desk_view seat.new) }
         ensures ticks { Ticks (desk_view seat.old) (desk_view seat.new) }
     {
@@ -196,7 +201,7 @@ impl PartDesk {
         went_on
     }
 
-    /// Takes turn after turn until an open call is answered.
+    /// Takes turns until an open call is answered.
     fn finish<R: Wait>(
         &self,
         rt: &R,
@@ -208,7 +213,8 @@ impl PartDesk {
         ensures seat { IsDeskSeat self.now seat.new }
         ensures run { IsRun (desk_spec self.now) (desk_view seat.new).seen }
         ensures accounts { Accounts (desk_view seat.new) }
-        ensures ends { FinishEnds (desk_spec self.now) (desk_view seat.old) (desk_view seat.new) waiting result }
+        ensures ends { FinishEnds (desk_spec self.now) (desk_view seat.old)
+            (desk_view seat.new) waiting result }
         ensures clocked { Clocked (desk_view seat.new) }
         ensures ticks { Ticks (desk_view seat.old) (desk_view seat.new) }
     {
@@ -222,7 +228,7 @@ impl PartDesk {
         unreachable!()
     }
 
-    /// One turn in which a thread's open call is looked for.
+    /// One turn that finds a thread's open call.
     fn find<R: Wait>(
         &self,
         rt: &R,
@@ -235,7 +241,8 @@ impl PartDesk {
         ensures seat { IsDeskSeat self.now seat.new }
         ensures run { IsRun (desk_spec self.now) (desk_view seat.new).seen }
         ensures accounts { Accounts (desk_view seat.new) }
-        ensures ends { FindEnds (desk_spec self.now) (desk_view seat.old) (desk_view seat.new) thread result }
+        ensures ends { FindEnds (desk_spec self.now) (desk_view seat.old)
+            (desk_view seat.new) thread result }
         ensures clocked { Clocked (desk_view seat.new) }
         ensures ticks { Ticks (desk_view seat.old) (desk_view seat.new) }
     {
@@ -245,13 +252,14 @@ impl PartDesk {
         found
     }
 
-    /// One turn in which the part's next step is taken. Tells whether there was one.
+    /// One turn that takes the part's next step. Returns whether there was one.
     fn settle_once<R: Wait>(&self, rt: &R, seat: &mut DeskSeat) -> Result<bool, NoMemory>
         requires { IsDeskSeat self.now seat.old }
         ensures seat { IsDeskSeat self.now seat.new }
         ensures run { IsRun (desk_spec self.now) (desk_view seat.new).seen }
         ensures accounts { Accounts (desk_view seat.new) }
-        ensures ends { SettlesOnce (desk_spec self.now) (desk_view seat.old) (desk_view seat.new) result }
+        ensures ends { SettlesOnce (desk_spec self.now) (desk_view seat.old)
+            (desk_view seat.new) result }
         ensures clocked { Clocked (desk_view seat.new) }
         ensures ticks { Ticks (desk_view seat.old) (desk_view seat.new) }
     {
@@ -261,7 +269,7 @@ impl PartDesk {
         settled
     }
 
-    /// One turn in which a frame arrives. Tells whether the device's ring kept it.
+    /// One turn in which a frame arrives. Returns whether the device's ring had room for it.
     fn let_arrive<R: Wait>(
         &self,
         rt: &R,
@@ -275,7 +283,8 @@ impl PartDesk {
         ensures seat { IsDeskSeat self.now seat.new }
         ensures run { IsRun (desk_spec self.now) (desk_view seat.new).seen }
         ensures accounts { Accounts (desk_view seat.new) }
-        ensures ends { ArriveEnds (desk_spec self.now) (desk_view seat.old) (desk_view seat.new) frame result }
+        ensures ends { ArriveEnds (desk_spec self.now) (desk_view seat.old)
+            (desk_view seat.new) frame result }
         ensures clocked { Clocked (desk_view seat.new) }
         ensures ticks { Ticks (desk_view seat.old) (desk_view seat.new) }
     {
@@ -303,7 +312,7 @@ impl DeskLike for PartDesk {
         thread: u8,
         op: &Op,
     ) -> Result<Receipt, DeskRefused> {
-        // What is so of a seat between two calls is so also where nothing is done.
+        // What holds for a seat between two calls also holds if nothing is done.
         let _ = &seat.seat;
         let Ok(room) = Room::new(alloc, MOST_ANSWER_WORDS) else {
             return Err(DeskRefused::NoMemory { call: None });
@@ -324,7 +333,7 @@ impl DeskLike for PartDesk {
         seat: &mut DeskSeat,
         frame: &Words,
     ) -> Result<bool, DeskRefused> {
-        // What is so of a seat between two calls is so also where nothing is done.
+        // What holds for a seat between two calls also holds if nothing is done.
         let _ = &seat.seat;
         let Ok(frame) = frame.copy(alloc) else {
             return Err(DeskRefused::NoMemory { call: None });

@@ -1,8 +1,8 @@
-//! The part that a turn keeps, and what a caller does with it while it has the turn.
+//! The part in a lock, and what a caller does with it while it has the turn.
 
 ghost use Rattle.std.specs.Prelude.{◌≡◌, ◌<◌, ◌≤◌, IsSome, Some, false, length, true};
 ghost use Rattle.nook_data.specs.Classes.{same_class};
-ghost use Rattle.nook_data.specs.Places.{at_number};
+ghost use Rattle.nook_data.specs.Numbered.{at_number};
 ghost use Rattle.part_defs.specs.Log.{call_of_thread};
 ghost use Rattle.part_defs.specs.Steps.{can_invoke, enabled};
 ghost use Rattle.nook_data.specs.declared.classes.Class.TheVariants as class;
@@ -24,13 +24,13 @@ use nook_data::steps::{Event, Step};
 use part_core::{Part, StepDone, StepRefused};
 use std::marker::Model;
 
-/// A part, which its run stands for.
+/// A part, which its run represents.
 #[derive(Drop)]
-pub struct Held {
+pub struct LockedPart {
     part: Part,
 }
 
-impl Model for Held {
+impl Model for LockedPart {
     ghost use Rattle.part_defs.specs.Runs.{PartRun};
     ghost use Rattle.part_core.specs.Kept.{IsKept};
 
@@ -41,18 +41,18 @@ impl Model for Held {
     ghost invariant = { λ s. IsKept s.part };
 }
 
-impl Held {
+impl LockedPart {
     /// Takes a part.
-    pub fn new(part: Part) -> Held
+    pub fn new(part: Part) -> LockedPart
         ensures part { result ≡ part }
         ensures kept { IsKept result }
     {
         let _journal = part.journal();
         let _spec = part.spec();
-        Held { part }
+        LockedPart { part }
     }
 
-    /// Gives the part.
+    /// Returns the part.
     pub fn into_part(self) -> Part
         ensures part { result ≡ self }
         ensures kept { IsKept result }
@@ -67,7 +67,7 @@ impl Held {
         self.part.journal().len() as u64
     }
 
-    /// Takes one step, as `Part::step`.
+    /// Takes one step, as `Part::step` does.
     fn step(&mut self, step: Step) -> Result<StepDone, StepRefused>
         ensures stepped { IsStepped self.old step result self.new }
         ensures was { IsKept self.old }
@@ -76,16 +76,16 @@ impl Held {
         self.part.step(step)
     }
 
-    /// The event at a place, from 1.
-    fn event(&self, place: u64) -> &Event
-        requires { (0 < place) × (place ≤ length self.now.journal) }
-        ensures there { at_number place self.now.journal ≡ Some result.now }
+    /// The event with a number, from 1.
+    fn event(&self, number: u64) -> &Event
+        requires { (0 < number) × (number ≤ length self.now.journal) }
+        ensures there { at_number number self.now.journal ≡ Some result.now }
         ensures short { AnswersShortly result.now }
     {
-        self.part.journal().get(place as usize - 1)
+        self.part.journal().get(number as usize - 1)
     }
 
-    /// The receipt for an open call where one of the events that were not looked at answers it, else the call again.
+    /// The receipt for an open call if one of the events not yet looked at answers it; otherwise the call again.
     pub fn look(&self, waiting: Waiting) -> Result<Receipt, Waiting>
         requires looked { waiting.looked ≤ length self.now.journal }
         requires room { MOST_ANSWER_WORDS ≤ waiting.room }
@@ -94,7 +94,7 @@ impl Held {
     {
         let events = self.part.journal().as_slice();
         match first_answer(events, waiting.looked, waiting.call) {
-            Some(place) => Ok(waiting.receipt(place, self.event(place))),
+            Some(number) => Ok(waiting.receipt(number, self.event(number))),
             None => Err(waiting),
         }
     }
@@ -107,7 +107,7 @@ impl Held {
         ensures kept { IsKept self.new }
     {
         match self.step(Step::Invoke { thread, op }) {
-            Ok(done) => Ok(self.invoked(done.place, thread, room)),
+            Ok(done) => Ok(self.invoked(done.number, thread, room)),
             Err(StepRefused::NoMemory) => Err(DeskRefused::NoMemory { call: None }),
             Err(StepRefused::NotEnabled) => Err(self.refusal(thread)),
         }
@@ -125,41 +125,41 @@ impl Held {
         }
     }
 
-    /// How far the call of the last event, an invocation, got.
-    fn invoked(&self, place: u64, thread: u8, room: Room<u32>) -> Progress
-        requires last { (place ≡ length self.now.journal) × IsAt self.now.journal place Invokes }
+    /// How far a call got in the last event, which invoked it.
+    fn invoked(&self, number: u64, thread: u8, room: Room<u32>) -> Progress
+        requires last { (number ≡ length self.now.journal) × IsAt self.now.journal number Invokes }
         requires room { MOST_ANSWER_WORDS ≤ room }
         ensures { InvokedGives self.now.journal thread result }
     {
-        let Event::Invoke { call, .. } = self.event(place) else {
+        let Event::Invoke { call, .. } = self.event(number) else {
             unreachable!()
         };
         self.reached(Waiting {
             call: *call,
             thread,
-            at_invoke: place,
-            looked: place as usize,
+            at_invoke: number,
+            looked: number as usize,
             room,
         })
     }
 
-    /// How far a call got in the last event, with which all events are looked at.
+    /// How far a call got in the last event. After it, all events were looked at.
     fn reached(&self, waiting: Waiting) -> Progress
         requires some { 0 < length self.now.journal }
         requires looked { waiting.looked ≡ length self.now.journal }
         requires room { MOST_ANSWER_WORDS ≤ waiting.room }
         ensures { ReachedGives self.now.journal waiting result }
     {
-        let place = waiting.looked as u64;
-        let event = self.event(place);
+        let number = waiting.looked as u64;
+        let event = self.event(number);
         if event.answer_to(waiting.call).is_some() {
-            Progress::Answered(waiting.receipt(place, event))
+            Progress::Answered(waiting.receipt(number, event))
         } else {
             Progress::Open(waiting)
         }
     }
 
-    /// Takes a step for an open call: its own next step where there is one, else the part's.
+    /// Takes a step for an open call: its own next step if there is one, otherwise the part's.
     pub fn go_on(&mut self, mut waiting: Waiting) -> Result<Progress, DeskRefused>
         requires { IsGoingOn self.old waiting }
         ensures gives { GoOnGives self.old self.new waiting result }
@@ -167,7 +167,7 @@ impl Held {
     {
         match self.step(self.next(waiting.thread)) {
             Ok(done) => {
-                waiting.looked = done.place as usize;
+                waiting.looked = done.number as usize;
                 Ok(self.reached(waiting))
             }
             Err(StepRefused::NoMemory) => Err(DeskRefused::NoMemory {
@@ -177,7 +177,7 @@ impl Held {
         }
     }
 
-    /// The next step of a thread's open call where there is one, else the part's.
+    /// The next step of a thread's open call if there is one, otherwise the part's.
     fn next(&self, thread: u8) -> Step
         requires { IsSome (call_of_thread thread self.now.state.log.pending) }
         ensures own { IsOwn result }
@@ -192,7 +192,7 @@ impl Held {
         }
     }
 
-    /// The thread's open call, to be waited for.
+    /// The thread's open call, ready to be waited for.
     pub fn find(&self, thread: u8, room: Room<u32>) -> Result<Waiting, DeskRefused>
         requires { MOST_ANSWER_WORDS ≤ room }
         ensures gives { FindGives self.now thread result }
@@ -214,7 +214,7 @@ impl Held {
         })
     }
 
-    /// A frame arrives. Tells whether the device's ring kept it.
+    /// Adds the arrival of a frame. Returns whether the device's ring had room for it.
     pub fn arrive(&mut self, frame: Words) -> Result<bool, DeskRefused>
         requires net { same_class self.old.state.spec.class class.Net ≡ true }
         requires some { 1 ≤ length frame }
@@ -223,7 +223,7 @@ impl Held {
         ensures kept { IsKept self.new }
     {
         match self.step(Step::Arrive { frame }) {
-            Ok(done) => match self.event(done.place) {
+            Ok(done) => match self.event(done.number) {
                 Event::Arrive { kept, .. } => Ok(*kept),
                 _ => unreachable!(),
             },
@@ -232,7 +232,7 @@ impl Held {
         }
     }
 
-    /// Takes the part's next step, and tells whether there was one.
+    /// Takes the part's next step, and returns whether there was one.
     pub fn settle(&mut self) -> Result<bool, NoMemory>
         ensures gives { SettleGives self.old self.new result }
         ensures kept { IsKept self.new }

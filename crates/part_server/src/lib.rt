@@ -1,10 +1,10 @@
-//! Desks: threads call one part through a lock that keeps it, and each caller takes whichever step of the part is next.
+//! Desks: threads call one part through a lock, and each caller takes whichever step of the part is next.
 //!
-//! A `PartDesk` has a part in a turn of `turn_lock`. A call invokes its operation in one turn and then takes turn after
-//! turn until it is answered, by itself or by another caller; each turn adds at most one event to the part's journal.
+//! A `PartDesk` keeps a part in a lock of `turn_lock`. A call invokes its operation in one turn and then takes more
+//! turns until it is answered, by itself or by another caller. Each turn adds at most one event to the part's journal.
 //!
-//! Each event has a stamp, by Lamport's clocks: each seat has one, and the part's last stamp is another. So the events
-//! of several desks can be put into one order. The stamps exist in contracts alone.
+//! Each event has a stamp from Lamport clocks: each seat has a clock, and the part's last stamp serves as another. So
+//! the events of several desks can be put into one order. The stamps exist only in contracts.
 #![tactic(auto)]
 
 mod answers;

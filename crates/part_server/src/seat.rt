@@ -1,14 +1,14 @@
-//! A caller's place at a desk.
+//! A caller's handle to a desk.
 
 use crate::dated::Dated;
 use clocks::Clock;
 use std::marker::Model;
 use turn_lock::TurnSeat;
 
-/// A caller's place at a `PartDesk`, which one thread has at a time. It has a clock, and no other bytes: what it knows
-/// exists in contracts alone. Between two calls it has not the turn, what it has seen is a run of the desk's part with
-/// the stamps of its events, its clock is no earlier than any of them, and the seat accounts for the events that were
-/// added through it.
+/// A caller's handle to a `PartDesk`, which one thread has at a time. It holds a clock and no other bytes: what it
+/// knows exists only in contracts. Between two calls it does not have the turn. What it has seen is a run of the desk's
+/// part with the stamps of its events, none of which is later than its clock. The seat accounts for the events that
+/// were added through it.
 #[derive(Drop)]
 pub struct DeskSeat {
     pub(crate) seat: TurnSeat<Dated>,

@@ -9,7 +9,7 @@ use nook_data::limits::MOST_ANSWER_WORDS;
 use nook_data::memory::Room;
 use nook_data::steps::Event;
 
-/// An open call of a thread, the place of its invocation, and room for its answer. None of the first `looked` events
+/// An open call of a thread, the number of its invocation, and room for its answer. None of the first `looked` events
 /// answers it.
 #[derive(Drop)]
 pub struct Waiting {
@@ -28,21 +28,21 @@ pub enum Progress {
 }
 
 impl Waiting {
-    /// The receipt for the answer that the event at a place gives. It takes no memory.
-    pub fn receipt(self, place: u64, event: &Event) -> Receipt
+    /// The receipt for the answer of the event with a number. It allocates nothing.
+    pub fn receipt(self, number: u64, event: &Event) -> Receipt
         requires answers { is_some (answer_at self.call event.now) ≡ true }
         requires short { AnswersShortly event.now }
         requires room { MOST_ANSWER_WORDS ≤ self.room }
         ensures call { result.call ≡ self.call }
         ensures at_invoke { result.at_invoke ≡ self.at_invoke }
-        ensures at_reply { result.at_reply ≡ place }
+        ensures at_reply { result.at_reply ≡ number }
         ensures answer { answer_at self.call event.now ≡ Some result.answer }
     {
         match event.answer_to(self.call) {
             Some(answer) => Receipt {
                 call: self.call,
                 at_invoke: self.at_invoke,
-                at_reply: place,
+                at_reply: number,
                 answer: answer.copy_in_room(self.room),
             },
             None => unreachable!(),

@@ -8,7 +8,7 @@ use Rattle.nook_data.specs.Types.{Fault, PartSpec, Scenario}
 use Rattle.nook_data.specs.Valid.{IsValidFault, IsValidKind, IsValidScenario}
 use Rattle.nook_data.specs.declared.limits.TheConstants.{MOST_CAMPAIGN_FAULTS, MOST_CAMPAIGN_OPS, MOST_FAULTS}
 
--- A campaign's limits, and the scenarios of its members.
+-- The limits of a campaign, and the scenarios of its members.
 
 -- ---- members
 
@@ -16,15 +16,15 @@ use Rattle.nook_data.specs.declared.limits.TheConstants.{MOST_CAMPAIGN_FAULTS, M
 abbrev pub with_faults : List Fault → PartSpec → PartSpec
 with_faults faults part = record part { faults = part.faults ++ faults }
 
--- the parts, of which the one at a place is this one with some faults after its own
+-- the parts in which the one at an index is this part with some faults after its own
 abbrev pub with_struck_by : List PartSpec → ℕ → List Fault → Option PartSpec → List PartSpec
-with_struck_by parts place faults None = parts
-with_struck_by parts place faults (Some part) = slice_set parts place (with_faults faults part)
+with_struck_by parts index faults None = parts
+with_struck_by parts index faults (Some part) = slice_set parts index (with_faults faults part)
 
--- the scenario whose part at a place has some faults after its own
+-- the scenario in which the part at an index has some faults after its own
 abbrev pub struck_by : Scenario → ℕ → List Fault → Scenario
-struck_by scenario place faults =
-    record scenario { parts = with_struck_by scenario.parts place faults (slice_get scenario.parts place) }
+struck_by scenario index faults =
+    record scenario { parts = with_struck_by scenario.parts index faults (slice_get scenario.parts index) }
 
 -- ---- limits
 
@@ -47,22 +47,22 @@ abbrev pub longest_of : List (List Fault) → ℕ
 longest_of [] = 0
 longest_of (faults ∷ lists) = max (length faults) (longest_of lists)
 
--- the most faults that a member has
+-- the most faults of one member
 abbrev pub most_faults : Strikes → ℕ
 most_faults (strikes.Members lists) = longest_of lists
 most_faults (strikes.Faults faults) = 1
 most_faults (strikes.Every kinds) = 1
 
--- how many faults a part gets: so many where it is the struck one
+-- the number of faults that a part gets: this many if it is the struck one, else 0
 abbrev pub more_faults : ℕ → ℕ → ℕ → ℕ
-more_faults struck more place = if place == struck then more else 0
+more_faults struck more index = if index == struck then more else 0
 
--- each of some parts, the first of them at a place, has room for the faults that it gets and for a guard's traps
+-- each of these parts has room for the faults that it gets and for a guard's traps, given the index of the first part
 abbrev pub HaveRoom : ℕ → ℕ → ℕ → List PartSpec → Type 0
-HaveRoom struck more place [] = ⊤
-HaveRoom struck more place (part ∷ parts) =
-    (length part.faults + more_faults struck more place + (part.limit + 1) ≤ MOST_FAULTS)
-    × HaveRoom struck more (suc place) parts
+HaveRoom struck more index [] = ⊤
+HaveRoom struck more index (part ∷ parts) =
+    (length part.faults + more_faults struck more index + (part.limit + 1) ≤ MOST_FAULTS)
+    × HaveRoom struck more (suc index) parts
 
 -- a valid scenario of up to 64 operations, one of its parts, what strikes it, and room for that and for a guard's traps
 pub record IsValidPlan (plan : Plan) : Type 0 where

@@ -1,3 +1,3 @@
--- The types of the code's data, which the definitions speak of, passed on so that each names them in one place.
+-- The types of the code's data, re-exported so that the definitions import them from one module.
 use Rattle.plan_defs.specs.declared
 pub use declared.plan.{Plan.Plan, Strikes.Strikes}

@@ -5,17 +5,17 @@ use nook_data::scenario::{FaultKind, Faults, Scenario};
 
 /// The most faults of one member.
 pub const MOST_MEMBER_FAULTS: usize = 16;
-/// The most kinds of fault of which every one is run.
+/// The most kinds of fault for a campaign that runs every fault of them.
 pub const MOST_EVERY_KINDS: usize = 64;
 
-/// What strikes the members. A member's faults come after those that the struck part has in the base.
+/// The faults that strike the members. A member's faults come after those that the struck part has in the base.
 #[derive(Drop)]
 pub enum Strikes {
     /// A member for each of these faults.
     Faults(Faults),
     /// A member for each of these lists of faults.
     Members(Items<Faults>),
-    /// A member for each fault of these kinds, in each burst of the base's run and at each turn at which it strikes.
+    /// A member for each fault of these kinds, at each burst and instruction of the base's run at which it strikes.
     Every(Items<FaultKind>),
 }
 
@@ -23,7 +23,7 @@ pub enum Strikes {
 #[derive(Drop)]
 pub struct Plan {
     pub base: Scenario,
-    /// The number of the struck part, from 0.
+    /// The index of the struck part.
     pub part: u32,
     pub strikes: Strikes,
     /// Whether each run is guarded.

@@ -15,28 +15,28 @@ blank_blocks Block count = replicate count (replicate BLOCK_WORDS 0)
 blank_blocks Net count = []
 blank_blocks Sound count = []
 
--- the words of so many blocks from a first one on, one block after the other
+-- the words of this many consecutive blocks, beginning with the first
 abbrev pub get_blocks : List (List ℕ) → ℕ → ℕ → List ℕ
 get_blocks blocks first zero = []
 get_blocks blocks first (suc more) = unwrap_or (slice_get blocks first) [] ++ get_blocks blocks (suc first) more
 
--- what a Write has for a block that it covers
+-- the words of a Write for a block that it covers
 abbrev pub words_for : Op → ℕ → List ℕ
 words_for (Write first words) block = take BLOCK_WORDS (drop (BLOCK_WORDS * (block - first)) words)
 words_for o block = []
 
--- the blocks after the chosen ones of a Write were put; `block` is the number of the first
+-- the blocks after a Write put its words in the chosen ones; `block` is the number of the first
 abbrev pub put_from : (ℕ → Bool) → Op → ℕ → List (List ℕ) → List (List ℕ)
 put_from chosen o block [] = []
 put_from chosen o block (words ∷ blocks) =
     elim (chosen block) [ true ↦ words_for o block | false ↦ words ] ∷ put_from chosen o (suc block) blocks
 
--- each block that a Write covers has its words; `block` is the number of the first
+-- each block that a Write covers holds its words; `block` is the number of the first
 abbrev pub holds_from : ℕ → Op → List (List ℕ) → Bool
 holds_from block o [] = true
 holds_from block o (words ∷ blocks) =
     (not (covers o block) || bytes_eq words (words_for o block)) && holds_from (suc block) o blocks
 
--- a block is among these
+-- a block is among these numbers
 abbrev pub has_block : ℕ → List ℕ → Bool
 has_block block blocks = list_any (λ other. other == block) blocks

@@ -8,13 +8,13 @@ use Rattle.nook_data.specs.declared.classes.Class.TheVariants.{Net, Sound}
 use Rattle.nook_data.specs.declared.calls.Op.TheVariants.{Read, Write, Send, Recv, Open, Play, Close, Get, Set}
 use Rattle.promise_defs.specs.Blocks.{blank_blocks, get_blocks, put_from, has_block}
 use Rattle.nook_data.specs.Classes.{covers, defaults_of, is_holder, is_next, is_play, same_class, sends, static_check}
-use Rattle.nook_data.specs.Places.{at_number, change_number, number_where}
+use Rattle.nook_data.specs.Numbered.{at_number, change_number, number_where}
 use Rattle.promise_defs.specs.Trace.{Visible, called, wire, sample, arrived, answer}
 
--- The never-failing device of a class: a plain disk of which blocks may fail, a link that may lose frames, or a
--- stream that may skip samples, each with a configuration. It knows no domains, stages, failures or restarts.
+-- The never-failing device of a class: a plain disk on which blocks may fail, a link that may lose frames, or a
+-- stream that may skip samples, each with a configuration. It has no domains, stages, failures or restarts.
 
--- a call: whether it waits for its answer, whether its frame is on the wire, and how many of its samples were played
+-- a call: whether it waits for its answer, whether its frame was sent, and how many of its samples were played
 pub record Opened : Type 0 where
   pub thread : ℕ
   pub op : Op
@@ -22,7 +22,7 @@ pub record Opened : Type 0 where
   pub wired : Bool
   pub played : ℕ
 
--- every call at the place of its number; the disk's blocks; the pending frames; the stream's thread; the configuration
+-- calls in the order of their numbers; the disk's blocks; the pending frames; the stream's holder; the configuration
 pub record Ideal : Type 0 where
   pub class : Class
   pub size : ℕ
@@ -32,7 +32,7 @@ pub record Ideal : Type 0 where
   pub holder : Option ℕ
   pub config : List ℕ
 
--- the device at first, with so many blocks
+-- the initial device, with this many blocks
 abbrev pub never_failing : Class → ℕ → Ideal
 never_failing class size = record {
   class = class;
@@ -44,39 +44,39 @@ never_failing class size = record {
   config = defaults_of class;
 }
 
--- the device goes on where the test holds, and else never shows this
+-- the device continues if the test holds; otherwise it never shows this
 abbrev pub when : Bool → Ideal → Option Ideal
 when true m = Some m
 when false m = None
 
--- calls are numbered from 1, and a thread has one open call
+-- calls are numbered from 1, and a thread has at most one open call
 abbrev pub may_call : ℕ → ℕ → List Opened → Bool
 may_call call thread opened =
     (call == suc (length opened)) && not (list_any (λ o. o.waits && (o.thread == thread)) opened)
 
 -- ---- the wire and the speaker
 
--- a Send that waits sends its own frame, once
+-- a Send that waits for its answer sends its own frame, once
 abbrev pub may_wire : List ℕ → Opened → Bool
 may_wire frame o = o.waits && not o.wired && sends frame o.op
 
--- the number of the Play that waits, of the thread that has the stream; 0 where there is none
+-- the number of the waiting Play of the thread that holds the stream; 0 if there is none
 abbrev pub play_of : Ideal → ℕ
 play_of m = number_where (λ o. o.waits && is_play o.op && is_holder m.holder o.thread) m.opened
 
--- a call's next sample, at the rate and the volume that are configured
+-- a call's next sample, at the configured rate and volume
 abbrev pub may_sound : ℕ → ℕ → ℕ → Ideal → Opened → Bool
 may_sound word rate volume m o =
     is_next o.op o.played word && (slice_index m.config 0 == rate) && (slice_index m.config 1 == volume)
 
 -- ---- a call is answered
 
--- the pending frames after the first that is this one; None where it is not pending
+-- the pending frames after the first one equal to this frame; None if none is equal
 abbrev pub after_frame : List ℕ → List (List ℕ) → Option (List (List ℕ))
 after_frame frame [] = None
 after_frame frame (first ∷ pending) = if bytes_eq first frame then Some pending else after_frame frame pending
 
--- the answers that may come to a call of a thread, where the static check gives none
+-- the answers that a thread's call may get if the static check gives none
 abbrev pub may_answer : Ideal → ℕ → Op → Answer → Bool
 may_answer m thread (Read first count) (answered.Blocks words) = bytes_eq words (get_blocks m.blocks first count)
 may_answer m thread (Read first count) (answered.IoError block) = covers (Read first count) block
@@ -96,8 +96,8 @@ may_answer m thread (Get key) (answered.Value word) = slice_index m.config key =
 may_answer m thread (Set key value) answered.Done = true
 may_answer m thread o a = false
 
--- what an answer changes: a Write's blocks are put, a frame leaves with all before it, the stream is taken or freed, a
--- key gets its value; the last list has the blocks of a Write that were stored although the medium failed
+-- the effects of an answer: a Write's blocks are stored, a frame leaves with all before it, the stream is opened or
+-- closed, a key gets its value; the last list has the blocks of a Write that were stored although the medium failed
 abbrev pub after_answer : Ideal → ℕ → Op → Answer → List ℕ → Ideal
 after_answer m thread (Write first words) answered.Done stored =
     record m { blocks = put_from (covers (Write first words)) (Write first words) 0 m.blocks }
@@ -112,7 +112,7 @@ after_answer m thread Close answered.Done stored = record m { holder = None }
 after_answer m thread (Set key value) answered.Done stored = record m { config = slice_set m.config key value }
 after_answer m thread o a stored = m
 
--- the same answer of the static check
+-- both are the same answer of the static check
 abbrev pub same_refusal : Answer → Answer → Bool
 same_refusal answered.BadClass answered.BadClass = true
 same_refusal answered.BadLength answered.BadLength = true
@@ -121,16 +121,16 @@ same_refusal answered.BadKey answered.BadKey = true
 same_refusal answered.BadValue answered.BadValue = true
 same_refusal a b = false
 
--- the answer that the static check gives, or else one that may come
+-- the answer of the static check, or one that may be given if it has none
 abbrev pub is_due : Ideal → Opened → Answer → Bool
 is_due m o a = elim (static_check m.class m.size o.op) [
   | (Some refusal) ↦ same_refusal refusal a
   | None ↦ may_answer m o.thread o.op a
 ]
 
--- ---- one thing shown, and all
+-- ---- one item shown, and all items
 
--- the device after it showed something; None where it never does: only a link shows arrivals and frames on the wire,
+-- the device after it shows an item; None if it never does: only a link shows arrivals and sent frames,
 -- and only a stream shows samples
 abbrev pub shows : Ideal → Visible → Option Ideal
 shows m (called call thread o) =
@@ -150,12 +150,12 @@ shows m (answer call a stored) =
     option_and_then (λ o. when (o.waits && is_due closed o a) (after_answer closed o.thread o.op a stored))
     (at_number call m.opened)
 
--- the device after it showed all of these; None where it never does
+-- the device after it shows all items; None if it never does
 unfoldable pub ran : Ideal → List Visible → Option Ideal
 ran m [] = Some m
 ran m (v ∷ more) = option_and_then (λ after. ran after more) (shows m v)
 
--- the trace is one of the never-failing device of a class
+-- the trace is possible for the never-failing device of a class
 unfoldable pub class_run : Class → ℕ → List Visible → Bool
 class_run class size visible = is_some (ran (never_failing class size) visible)
 

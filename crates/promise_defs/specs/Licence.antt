@@ -16,9 +16,9 @@ use Rattle.part_defs.specs.Runs.{state_after, step_of}
 use Rattle.part_defs.specs.State.{PartState}
 use Rattle.part_defs.specs.Steps.{opening}
 
--- Losses and busy answers stand only around a failure, or where a ring or a queue was full.
+-- Losses and busy answers occur only around a failure, or if a ring or a queue was full.
 
--- two stages are one
+-- the two stages are the same
 abbrev pub same_stage : Stage → Stage → Bool
 same_stage stage.Stop stage.Stop = true
 same_stage stage.Collect stage.Collect = true
@@ -30,7 +30,7 @@ same_stage stage.ReplayOpen stage.ReplayOpen = true
 same_stage stage.Resume stage.Resume = true
 same_stage a b = false
 
--- the current stage where the shadow answers: at an invocation while the part recovers, and at Stop
+-- the current stage if the shadow answers: at an invocation while the part recovers, and at Stop
 abbrev pub shadow_stage : Mode → Event → Option Stage
 shadow_stage m (event.Invoke call thread o a) = elim m as (λ m. Option Stage) [ mode.Recovering s ↦ Some s | _ ↦ None ]
 shadow_stage m (event.Stage stage.Stop answers released) = Some stage.Stop
@@ -38,19 +38,19 @@ shadow_stage m e = None
 
 -- ---- one answer
 
--- Done of a call whose frame was sent, or of which all samples were played, if it is open
+-- the call is not an open Send or Play, or its frame was sent, or all its samples were played
 abbrev pub is_served_call : Option OpenCall → Bool
 is_served_call None = true
 is_served_call (Some c) =
     elim c.op [ (Send frame) ↦ nat_lt 0 c.sent | (Play samples) ↦ c.played == length samples | _ ↦ true ]
 
--- this is the current stage where the shadow answers
+-- the shadow answers, and this is the current stage
 abbrev pub is_stage : Option Stage → Stage → Bool
 is_stage None s = false
 is_stage (Some current) s = same_stage current s
 
--- an answer of a call: `shadow` is the current stage where the shadow answers, `queue` is the kernel's queue, and `k`
--- is what is known with the event, the calls that it answers among them
+-- an answer to a call is allowed: `shadow` is the current stage if the shadow answers, `queue` is the kernel's queue,
+-- and `k` is what is known during the event, with the calls that it answers still open
 abbrev pub allows : Option Stage → List (List ℕ) → Known → ℕ → Answer → Bool
 allows shadow queue k call answer.Done = is_some shadow || is_served_call (call_of call k.calls)
 allows shadow queue k call (answer.Busy s) = is_stage shadow s
@@ -59,27 +59,27 @@ allows shadow queue k call (answer.IoError block) =
     is_none shadow && elim (call_of call k.calls) [ None ↦ false | Some c ↦ has_block block c.failed ]
 allows shadow queue k call a = true
 
--- an answer that is not allowed
+-- an answer is not allowed
 abbrev pub refuses : Option Stage → List (List ℕ) → Known → ℕ × Answer → Bool
 refuses shadow queue k a = not (allows shadow queue k a.0 a.1)
 
 -- ---- events
 
--- an event of a part in this state, with what is known with it: each of its answers is allowed
+-- each answer of an event is allowed, given the state of its part and what is known
 abbrev pub licenses : PartState → Known → Event → Bool
 licenses p k e = not (list_any (refuses (shadow_stage p.mode e) p.queue k) (answers_of e))
 
--- events of a part in this state, before which this is known
+-- each answer of the events is allowed, given the state of the part and what is known before them
 unfoldable pub is_licensed_from : PartState → Known → List Event → Bool
 is_licensed_from p k [] = true
 is_licensed_from p k (e ∷ events) =
     licenses p (during k e) e && is_licensed_from (state_after p (step_of e)) (known_after k e) events
 
--- each frame that arrived was received, or is somewhere, or was lost where it is told
+-- each frame that arrived was received, is in the queue, the ring or the driver, or is counted as lost
 abbrev pub is_balanced : Losses → Bool
 is_balanced n = n.arrived == n.received + n.queued + n.ring + n.driver + n.reset + n.full_ring + n.full_queue
 
--- a journal of a part
+-- a journal of a part has only licensed answers, and its frames are balanced
 unfoldable pub is_licensed : PartSpec → List Event → Bool
 is_licensed spec events =
     is_licensed_from (opening spec) (known_first spec.class spec.blocks) events && is_balanced (losses events)

@@ -18,17 +18,17 @@ use Rattle.nook_data.specs.Answers.{answers_of}
 abbrev pub is_arrival : Event → Bool
 is_arrival e = elim e [ (event.Arrive frame kept) ↦ true | _ ↦ false ]
 
--- the ring was full
+-- a frame arrived, and the ring was full
 abbrev pub is_lost_arrival : Event → Bool
 is_lost_arrival e = elim e [ (event.Arrive frame kept) ↦ not kept | _ ↦ false ]
 
--- ---- frames handed up: the queue takes one exactly where the service's result is not 0
+-- ---- frames handed up: the queue takes one exactly if the service's result is not 0
 
--- the answer of service 6 that ends a burst, which is not 0 where the queue took the frame
+-- the answer of service 6 at the end of a burst; it is not 0 if the queue took the frame
 abbrev pub handed_result : End → Option ℕ
 handed_result e = elim e [ (end.Service n first second result moved) ↦ if n == 6 then result else None | _ ↦ None ]
 
--- the same of an event
+-- the answer of service 6 in an event
 abbrev pub result_of : Event → Option ℕ
 result_of e = elim e [ (event.Burst context call burst count ending acts a f) ↦ handed_result ending | _ ↦ None ]
 
@@ -36,7 +36,7 @@ result_of e = elim e [ (event.Burst context call burst count ending acts a f) �
 abbrev pub is_taken : Event → Bool
 is_taken e = elim (result_of e) [ Some result ↦ not (result == 0) | None ↦ false ]
 
--- the queue was full
+-- a frame was handed up, and the queue was full
 abbrev pub is_refused : Event → Bool
 is_refused e = elim (result_of e) [ Some result ↦ result == 0 | None ↦ false ]
 
@@ -46,73 +46,73 @@ is_refused e = elim (result_of e) [ Some result ↦ result == 0 | None ↦ false
 abbrev pub all_answers : List Event → List (ℕ × Answer)
 all_answers events = flat_map answers_of events
 
--- an answer Busy
+-- a Busy answer
 abbrev pub is_busy : ℕ × Answer → Bool
 is_busy a = elim a.1 [ answer.Busy s ↦ true | _ ↦ false ]
 
--- a Recv got a frame
+-- the answer of a Recv that got a frame
 abbrev pub is_received : ℕ × Answer → Bool
 is_received a = elim a.1 [ answer.Frame frame ↦ true | _ ↦ false ]
 
 -- ---- sends and samples that were lost
 
 -- an open call: how many frames were sent and how many samples were played in its bursts
-pub record Tally : Type 0 where
+pub record CallEffects : Type 0 where
   pub number : ℕ
   pub op : Op
   pub sent : ℕ
   pub played : ℕ
 
--- a frame is sent
+-- the act sends a frame
 abbrev pub is_sent : Act → Bool
 is_sent a = elim a [ (act.Sent frame) ↦ true | _ ↦ false ]
 
--- a sample is played
+-- the act plays a sample
 abbrev pub is_played : Act → Bool
 is_played a = elim a [ (act.Played word rate volume) ↦ true | _ ↦ false ]
 
--- a call that is made
-abbrev pub new_tally : ℕ → Op → Tally
-new_tally number o = record { number = number; op = o; sent = 0; played = 0 }
+-- a new call
+abbrev pub new_effects : ℕ → Op → CallEffects
+new_effects number o = record { number = number; op = o; sent = 0; played = 0 }
 
--- the open calls with what an event does in them, those that it answers among them
-abbrev pub tallies_during : List Tally → Event → List Tally
-tallies_during ts (event.Invoke call thread o a) = ts ++ new_tally call o ∷ []
-tallies_during ts (event.Burst context call burst count e acts a failure) =
-    map (λ (t : Tally). if t.number == call
+-- the open calls with the effects of an event on them, including those that it answers
+abbrev pub call_effects_during : List CallEffects → Event → List CallEffects
+call_effects_during ts (event.Invoke call thread o a) = ts ++ new_effects call o ∷ []
+call_effects_during ts (event.Burst context call burst count e acts a failure) =
+    map (λ (t : CallEffects). if t.number == call
     then record t { sent = t.sent + count_by is_sent acts; played = t.played + count_by is_played acts } else t) ts
-tallies_during ts e = ts
+call_effects_during ts e = ts
 
--- a call is open until an event answers it
-abbrev pub tallies_after : List Tally → Event → List Tally
-tallies_after ts e = filter (λ t. not (list_any (λ a. a.0 == t.number) (answers_of e))) (tallies_during ts e)
+-- the open calls after an event; a call is open until an event answers it
+abbrev pub call_effects_after : List CallEffects → Event → List CallEffects
+call_effects_after ts e = filter (λ t. not (list_any (λ a. a.0 == t.number) (answers_of e))) (call_effects_during ts e)
 
--- the answer Done
+-- the answer is Done
 abbrev pub is_done : Answer → Bool
 is_done a = elim a [ answer.Done ↦ true | _ ↦ false ]
 
--- what is lost by an answer of an open call: something only if it is Done
-abbrev pub lost_by : (Tally → ℕ) → List Tally → ℕ × Answer → ℕ
+-- what is lost by an answer to an open call, if it is Done
+abbrev pub lost_by : (CallEffects → ℕ) → List CallEffects → ℕ × Answer → ℕ
 lost_by lost ts a = elim (find (λ t. t.number == a.0) ts) [ Some t ↦ if is_done a.1 then lost t else 0 | None ↦ 0 ]
 
--- what is lost by the answers of events that follow
-abbrev pub lost_from : (Tally → ℕ) → List Tally → List Event → ℕ
+-- what is lost by the answers of consecutive events
+abbrev pub lost_from : (CallEffects → ℕ) → List CallEffects → List Event → ℕ
 lost_from lost ts [] = 0
 lost_from lost ts (e ∷ events) =
-    sum_by (lost_by lost (tallies_during ts e)) (answers_of e) + lost_from lost (tallies_after ts e) events
+    sum_by (lost_by lost (call_effects_during ts e)) (answers_of e) + lost_from lost (call_effects_after ts e) events
 
--- Sends that were answered Done though no frame was sent in them
+-- the number of Sends that were answered Done although no frame was sent in them
 abbrev pub lost_sends : List Event → ℕ
 lost_sends events = lost_from (λ t. elim t.op [ (Send frame) ↦ if t.sent == 0 then 1 else 0 | _ ↦ 0 ]) [] events
 
--- samples that were not played, of Plays that were answered Done
+-- the number of samples that were not played, of Plays that were answered Done
 abbrev pub lost_samples : List Event → ℕ
 lost_samples events = lost_from (λ t. elim t.op [ (Play samples) ↦ length samples - t.played | _ ↦ 0 ]) [] events
 
--- ---- where frames are: in the ring, in the driver, or cleared by a Reset
+-- ---- the locations of frames: in the ring, in the driver, or cleared by a Reset
 
--- frames that the ring took, that were popped, and cleared; popped and handed up since the last Reset; lost by Resets
-pub record FramePlaces : Type 0 where
+-- counts of frames: taken by the ring, popped, cleared; popped and handed up since the last Reset; lost by Resets
+pub record FrameLocations : Type 0 where
   pub kept : ℕ
   pub popped : ℕ
   pub cleared : ℕ
@@ -120,41 +120,41 @@ pub record FramePlaces : Type 0 where
   pub handed_since : ℕ
   pub reset : ℕ
 
--- nowhere at first
-abbrev pub no_places : FramePlaces
-no_places = record { kept = 0; popped = 0; cleared = 0; popped_since = 0; handed_since = 0; reset = 0 }
+-- the initial counts of frames
+abbrev pub no_locations : FrameLocations
+no_locations = record { kept = 0; popped = 0; cleared = 0; popped_since = 0; handed_since = 0; reset = 0 }
 
--- 1 where the test holds
+-- 1 if the test holds, else 0
 abbrev pub one_if : Bool → ℕ
 one_if test = elim test [ true ↦ 1 | false ↦ 0 ]
 
--- a frame is popped
+-- the act pops a frame
 abbrev pub is_popped : Act → Bool
 is_popped a = elim a [ (act.Popped frame) ↦ true | _ ↦ false ]
 
--- frames that the ring took and that are still there
-abbrev pub in_ring : FramePlaces → ℕ
+-- the number of frames that are in the ring
+abbrev pub in_ring : FrameLocations → ℕ
 in_ring n = n.kept - n.popped - n.cleared
 
--- frames that were popped since the last Reset and not handed up
-abbrev pub in_driver : FramePlaces → ℕ
+-- the number of frames that were popped since the last Reset and not handed up
+abbrev pub in_driver : FrameLocations → ℕ
 in_driver n = n.popped_since - n.handed_since
 
--- a Reset clears the ring and what the driver has
-abbrev pub places_reset : FramePlaces → FramePlaces
-places_reset n = record n
+-- a Reset clears the ring and loses the frames in the driver
+abbrev pub locations_reset : FrameLocations → FrameLocations
+locations_reset n = record n
     { cleared = n.cleared + in_ring n; reset = n.reset + in_ring n + in_driver n; popped_since = 0; handed_since = 0 }
 
--- where frames are after an event
-abbrev pub places_after : FramePlaces → Event → FramePlaces
-places_after n (event.Burst context call burst count e acts a failure) = record n {
+-- the counts of frames after an event
+abbrev pub locations_after : FrameLocations → Event → FrameLocations
+locations_after n (event.Burst context call burst count e acts a failure) = record n {
   popped = n.popped + count_by is_popped acts;
   popped_since = n.popped_since + count_by is_popped acts;
   handed_since = n.handed_since + one_if (is_some (handed_result e));
 }
-places_after n (event.Stage stage.Reset answers released) = places_reset n
-places_after n (event.Arrive frame kept) = record n { kept = n.kept + one_if kept }
-places_after n e = n
+locations_after n (event.Stage stage.Reset answers released) = locations_reset n
+locations_after n (event.Arrive frame kept) = record n { kept = n.kept + one_if kept }
+locations_after n e = n
 
 -- what was lost in a list of events, and where its frames went
 unfoldable pub losses : List Event → Losses
@@ -165,9 +165,9 @@ losses events = record {
   arrived = count_by is_arrival events;
   received = count_by is_received (all_answers events);
   queued = count_by is_taken events - count_by is_received (all_answers events);
-  ring = in_ring (fold places_after no_places events);
-  driver = in_driver (fold places_after no_places events);
-  reset = (fold places_after no_places events).reset;
+  ring = in_ring (fold locations_after no_locations events);
+  driver = in_driver (fold locations_after no_locations events);
+  reset = (fold locations_after no_locations events).reset;
   full_ring = count_by is_lost_arrival events;
   full_queue = count_by is_refused events;
 }

@@ -6,9 +6,9 @@ use Rattle.nook_data.specs.declared.calls.Answer.TheVariants as answered
 use Rattle.nook_data.specs.declared.steps.Event.TheVariants as event
 use Rattle.nook_data.specs.Answers.{one_answer}
 use Rattle.nook_data.specs.Classes.{covers, is_write}
-use Rattle.nook_data.specs.Places.{at_number, change_number}
+use Rattle.nook_data.specs.Numbered.{at_number, change_number}
 
--- What the applications, the wire, the speaker and the arrivals show of a journal, and nothing else.
+-- What a journal shows to applications and the outside: answers, sent frames, played samples and arrivals.
 pub data Visible : Type 0 where
   -- a call with its number, its thread and its operation
   called : ℕ → ℕ → Op → Visible
@@ -18,24 +18,24 @@ pub data Visible : Type 0 where
   sample : ℕ → ℕ → ℕ → Visible
   -- a frame that arrived, kept or lost
   arrived : List ℕ → Visible
-  -- a call's answer; where it tells a Write that the medium failed, also the blocks of the Write that were stored
+  -- a call's answer; if it reports to a Write that the medium failed, also the blocks of the Write that were stored
   answer : ℕ → Answer → List ℕ → Visible
 
--- what the trace keeps of each call: its operation, whether it was entered, and which of its blocks were stored since
+-- the trace's record of a call: its operation, whether it was entered, and which of its blocks were stored since then
 pub record Track : Type 0 where
   pub op : Op
   pub entered : Bool
   pub stored : List ℕ
 
--- ---- each call after an event
+-- ---- the calls after an event
 
--- each call after an act: a stored block belongs to the entered Writes that cover it
+-- the calls after an act: a stored block belongs to the entered Writes that cover it
 abbrev pub tracks_after_act : List Track → Act → List Track
 tracks_after_act ts (act.Store block words) =
     map (λ (t : Track). record t { stored = if t.entered && covers t.op block then block ∷ t.stored else t.stored }) ts
 tracks_after_act ts a = ts
 
--- each call after an event
+-- the calls after an event
 abbrev pub tracks_after : Event → List Track → List Track
 tracks_after (event.Invoke call thread o a) ts = ts ++ record { op = o; entered = false; stored = [] } ∷ []
 tracks_after (event.Enter call thread attempt a) ts = change_number (λ t. record t { entered = true }) call ts
@@ -43,9 +43,9 @@ tracks_after (event.Burst context call burst count end acts a failure) ts = fold
 tracks_after (event.Stage stage answers released) ts = ts
 tracks_after (event.Arrive frame kept) ts = ts
 
--- ---- what an event shows, by the calls as they are after it
+-- ---- what an event shows, given the calls after it
 
--- the blocks that go with an answer
+-- the stored blocks that are shown with an answer
 abbrev pub kept_blocks : Answer → Option Track → List ℕ
 kept_blocks (answered.IoError block) (Some t) = if is_write t.op then t.stored else []
 kept_blocks a t = []
@@ -54,11 +54,11 @@ kept_blocks a t = []
 abbrev pub shown_answers : List (ℕ × Answer) → List Track → List Visible
 shown_answers answers ts = map (λ a. answer a.0 a.1 (kept_blocks a.1 (at_number a.0 ts))) answers
 
--- the answer that an application sees, where one is given
+-- the answer that an application sees, if there is one
 abbrev pub shown_option : ℕ → Option Answer → List Track → List Visible
 shown_option call a ts = shown_answers (one_answer call a) ts
 
--- the acts of a burst of a call; of these, frames sent and samples played are seen outside
+-- the visible acts of a burst of a call: frames sent and samples played
 abbrev pub shown_acts : ℕ → List Act → List Visible
 shown_acts call [] = []
 shown_acts call (act.Sent frame ∷ acts) = wire call frame ∷ shown_acts call acts
@@ -73,7 +73,7 @@ shown (event.Burst context call burst count end acts a failure) ts = shown_acts 
 shown (event.Stage stage answers released) ts = shown_answers answers ts
 shown (event.Arrive frame kept) ts = arrived frame ∷ []
 
--- what events show after those that made these tracks
+-- what events show, given the tracks before them
 unfoldable pub trace_from : List Track → List Event → List Visible
 trace_from ts [] = []
 trace_from ts (e ∷ events) = shown e (tracks_after e ts) ++ trace_from (tracks_after e ts) events

@@ -1,3 +1,3 @@
-//! Definitions of what is promised: the contract of a class, the never-failing device, traces, losses, the licence
+//! Definitions of the promises: the contract of a class, the never-failing device, traces, losses, the licence
 //! of the shadow, and isolation.
 #![tactic(auto)]

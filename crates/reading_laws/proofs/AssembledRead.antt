@@ -1,4 +1,4 @@
--- The image of an assembler text keeps the limits of images.
+-- The image that a text assembles to is within the limits of images.
 use Rattle.std.proofs.Common.{◌≡◌, ◌∙◌, refl, sym, subst, ap, ℕ, ◌+◌, ◌*◌, ◌<◌, ◌≤◌, ◌^◌, ◌==◌, ◌&&◌, ◌||◌, Bool, true, false, nat_le, nat_lt, List, [], ◌∷◌, ◌++◌, length, replicate, Option, Some, None, arith, lit≤, lit<, length-append, if◌then◌else◌}
 use Rattle.std.specs.Prelude.{Result, Ok, Err, IfOk, IfSome, All, slice_index, slice_set, codes, bytes_eq, option_map}
 use Rattle.std.specs.List.{find, list_all}
@@ -6,9 +6,9 @@ use Rattle.std.proofs.lemmas.Bool.{leb-true, ltb-true, ltb-false, and_parts}
 use Rattle.std.proofs.lemmas.List.{length-replicate}
 use Rattle.std.proofs.lemmas.List.Elements.{All-nil, All-cons, All-head, All-tail, All-push, All-set, All-replicate}
 use Rattle.std.proofs.Math.ListN.{length-set}
-use Rattle.asm_defs.specs.AsmLines.{Labels, first_of, definition_of, behind_definition, has_bad_token, behind_name}
+use Rattle.asm_defs.specs.AsmLines.{Labels, first_of, definition_of, after_definition, has_bad_token, after_name}
 use Rattle.asm_defs.specs.AsmLines.{line_says, operands_with, operands_of, value_of, right_or_wrong, instr_statement}
-use Rattle.asm_defs.specs.AsmLines.{bare_statement, word_statement, class_statement, place_among, entry_value}
+use Rattle.asm_defs.specs.AsmLines.{bare_statement, word_statement, class_statement, position_among, entry_value}
 use Rattle.asm_defs.specs.AsmLines.{entry_statement, directive_statement, statement_of}
 use Rattle.asm_defs.specs.Views.Assembling.{at_most_wrong, no_register, no_value, named_statement, class_by, entry_by}
 use Rattle.asm_defs.specs.Views.Assembling.{statement_by}
@@ -24,7 +24,7 @@ use Rattle.machine_defs.specs.Machine.{encode_of, word_of}
 use Rattle.machine_defs.specs.Mnemonics.{instr_with, form_of, mnemonic_named}
 use Rattle.asm_defs.specs.Results.{◌>>=◌}
 use Rattle.nook_data.specs.Valid.{AreWords, IsValidImage, IsWord}
-use Rattle.nook_data.specs.Views.Limits.{IsTextPlace}
+use Rattle.nook_data.specs.Views.Limits.{IsTextAddress}
 use Rattle.asm_defs.specs.declared.assembler.AsmFault.{AsmFault}
 use Rattle.asm_defs.specs.declared.assembler.AsmKind.{AsmKind}
 use Rattle.asm_defs.specs.declared.assembler.AsmKind.TheVariants as fault
@@ -47,7 +47,7 @@ use Rattle.reading_laws.proofs.Readings.{chained, passed}
 
 -- ---- words of instructions
 
--- fields in range make a word
+-- fields in range form a word
 word_fits : (op a b imm : ℕ) → op ≤ 24 → a ≤ 15 → b ≤ 15 → imm ≤ 65535 → word_of op a b imm < 2 ^ 32
 word_fits op a b imm ho ha hb hi = omega arith
 
@@ -85,15 +85,15 @@ encoded_fits mnemonic.Fault a b imm ha hb hi = lit< tt
 
 -- ---- what a line says
 
--- registers that are registers
+-- the register operands have numbers up to 15
 abbrev pub AreRegisters : Operands → Type 0
 AreRegisters operands = (operands.a ≤ 15) × (operands.b ≤ 15)
 
--- the registers of an instruction are registers
+-- the registers of an instruction have numbers up to 15
 abbrev pub IsFit : Statement → Type 0
 IsFit statement.Nothing = Unit {0}
 IsFit (statement.Class c) = Unit {0}
-IsFit (statement.Entry place value) = Unit {0}
+IsFit (statement.Entry index value) = Unit {0}
 IsFit (statement.Section in_section) = Unit {0}
 IsFit (statement.Word value) = Unit {0}
 IsFit (statement.Instr m operands) = AreRegisters operands
@@ -102,7 +102,7 @@ either : {T E : Type 0} (P : T → Type 0) (test : Bool) (x y : Result T E) → 
 either P true x y h k = h
 either P false x y h k = k
 
--- what is found among registers is one
+-- what `find` returns from a list of registers is a register
 found_low : (p : ℕ → Bool) (rs : List ℕ) → list_all (λ r. nat_le r 15) rs ≡ true → IfSome (find p rs) (λ r. r ≤ 15)
 found_low p [] h = tt
 found_low p (r ∷ rs) h = let parts = and_parts (nat_le r 15) (list_all (λ r. nat_le r 15) rs) h in
@@ -167,9 +167,9 @@ word_or_wrong : (o : Option Value) → IfOk (right_or_wrong statement.Word o) Is
 word_or_wrong None = tt
 word_or_wrong (Some value) = tt
 
-entry_or_wrong : (place : ℕ) (o : Option Value) → IfOk (right_or_wrong (statement.Entry place) o) IsFit
-entry_or_wrong place None = tt
-entry_or_wrong place (Some value) = tt
+entry_or_wrong : (index : ℕ) (o : Option Value) → IfOk (right_or_wrong (statement.Entry index) o) IsFit
+entry_or_wrong index None = tt
+entry_or_wrong index (Some value) = tt
 
 word_fits_line : (labels : Labels) (rest : List (List ℕ)) → IfOk (word_statement labels rest) IsFit
 unfolding word_statement
@@ -190,13 +190,13 @@ unfolding class_statement
 class_fits [] = tt
 class_fits (name ∷ more) = class_by_fits (kind_of name) (class_named name) more
 
-entry_value_fits : (labels : Labels) (place : ℕ) (rest : List (List ℕ)) → IfOk (entry_value labels place rest) IsFit
-entry_value_fits labels place [] = tt
-entry_value_fits labels place (token ∷ []) = entry_or_wrong place (value_of labels token)
-entry_value_fits labels place (token ∷ next ∷ more) = tt
+entry_value_fits : (labels : Labels) (index : ℕ) (rest : List (List ℕ)) → IfOk (entry_value labels index rest) IsFit
+entry_value_fits labels index [] = tt
+entry_value_fits labels index (token ∷ []) = entry_or_wrong index (value_of labels token)
+entry_value_fits labels index (token ∷ next ∷ more) = tt
 
 entry_by_fits : (labels : Labels) (k : TokenKind) (o : Option ℕ) (more : List (List ℕ)) → IfOk (entry_by labels k o more) IsFit
-entry_by_fits labels kind.Name (Some place) more = entry_value_fits labels place more
+entry_by_fits labels kind.Name (Some index) more = entry_value_fits labels index more
 entry_by_fits labels kind.Name None more = tt
 entry_by_fits labels kind.Definition o more = tt
 entry_by_fits labels kind.Directive o more = tt
@@ -206,7 +206,7 @@ entry_by_fits labels kind.Bad o more = tt
 entry_fits : (labels : Labels) (o : Option Class) (rest : List (List ℕ)) → IfOk (entry_statement labels o rest) IsFit
 unfolding entry_statement
 entry_fits labels (Some c) [] = tt
-entry_fits labels (Some c) (name ∷ more) = entry_by_fits labels (kind_of name) (place_among 0 (entry_keys c) name) more
+entry_fits labels (Some c) (name ∷ more) = entry_by_fits labels (kind_of name) (position_among 0 (entry_keys c) name) more
 entry_fits labels None [] = tt
 entry_fits labels None (name ∷ more) = tt
 
@@ -235,36 +235,36 @@ wrong_fits : (said : Result Statement AsmKind) → IfOk (at_most_wrong said) IsF
 wrong_fits (Ok says) = tt
 wrong_fits (Err k) = tt
 
-behind_fits : (o : Option (List ℕ)) (said : Result Statement AsmKind) → IfOk said IsFit → IfOk (behind_name o said) IsFit
-behind_fits None said h = h
-behind_fits (Some name) said h = either IsFit (is_register name) (at_most_wrong said) said (wrong_fits said) h
+after_fits : (o : Option (List ℕ)) (said : Result Statement AsmKind) → IfOk said IsFit → IfOk (after_name o said) IsFit
+after_fits None said h = h
+after_fits (Some name) said h = either IsFit (is_register name) (at_most_wrong said) said (wrong_fits said) h
 
 line_fits : (labels : Labels) (c : Option Class) (s : Section) (tokens : List (List ℕ)) → IfOk (line_says labels c s tokens) IsFit
 unfolding line_says
 line_fits labels c s tokens =
-    either IsFit (has_bad_token tokens) (Err fault.BadToken) (behind_name (definition_of tokens) (statement_of labels c s (behind_definition tokens))) tt
-    (behind_fits (definition_of tokens) (statement_of labels c s (behind_definition tokens)) (statement_fits labels c s (behind_definition tokens)))
+    either IsFit (has_bad_token tokens) (Err fault.BadToken) (after_name (definition_of tokens) (statement_of labels c s (after_definition tokens))) tt
+    (after_fits (definition_of tokens) (statement_of labels c s (after_definition tokens)) (statement_fits labels c s (after_definition tokens)))
 
 -- ---- drafts
 
--- an entry that is given is a place
-abbrev pub IsPlaceIfGiven : Option ℕ → Type 0
-IsPlaceIfGiven None = Unit {0}
-IsPlaceIfGiven (Some place) = IsTextPlace place
+-- an entry that is given is an address in the text
+abbrev pub IsAddressIfGiven : Option ℕ → Type 0
+IsAddressIfGiven None = Unit {0}
+IsAddressIfGiven (Some index) = IsTextAddress index
 
--- as many entries as the class has
+-- there are as many entries as the class has
 abbrev pub AreCounted : Option Class → List (Option ℕ) → Type 0
 AreCounted None entries = Unit {0}
 AreCounted (Some c) entries = length entries ≡ entry_count c
 
 pub record IsFitDraft (draft : Draft) : Type 0 where
   pub counted : AreCounted draft.class draft.entries
-  pub places : All IsPlaceIfGiven draft.entries
+  pub addresses : All IsAddressIfGiven draft.entries
   pub text : AreWords 2048 draft.text
   pub initial : AreWords 2048 draft.initial
 
 first_fits : IsFitDraft first_draft
-first_fits = record { counted = tt; places = All-nil IsPlaceIfGiven; text = (lit≤ tt, All-nil IsWord); initial = (lit≤ tt, All-nil IsWord) }
+first_fits = record { counted = tt; addresses = All-nil IsAddressIfGiven; text = (lit≤ tt, All-nil IsWord); initial = (lit≤ tt, All-nil IsWord) }
 
 more_words : (words : List ℕ) (w : ℕ) → AreWords 2048 words → IsWord w → length words < 2048 → AreWords 2048 (words ++ w ∷ [])
 more_words words w h hw room = (omega (arith, room, length-append words (w ∷ [])), All-push IsWord words w h.1 hw)
@@ -273,31 +273,31 @@ text_by : (draft : Draft) (w : ℕ) → IsWord w → IsFitDraft draft → (test 
     → let next : Result Draft AsmKind = if test then Ok (record draft { text = draft.text ++ w ∷ [] }) else Err fault.TextTooLong in IfOk next IsFitDraft
 text_by draft w hw h false e = tt
 text_by draft w hw h true e =
-    record { counted = h.counted; places = h.places; text = more_words draft.text w h.text hw (ltb-true (length draft.text) 2048 e); initial = h.initial }
+    record { counted = h.counted; addresses = h.addresses; text = more_words draft.text w h.text hw (ltb-true (length draft.text) 2048 e); initial = h.initial }
 
 initial_by : (draft : Draft) (w : ℕ) → IsWord w → IsFitDraft draft → (test : Bool) → nat_lt (length draft.initial) 2048 ≡ test
     → let next : Result Draft AsmKind = if test then Ok (record draft { initial = draft.initial ++ w ∷ [] }) else Err fault.DataTooLong in IfOk next IsFitDraft
 initial_by draft w hw h false e = tt
 initial_by draft w hw h true e =
-    record { counted = h.counted; places = h.places; text = h.text; initial = more_words draft.initial w h.initial hw (ltb-true (length draft.initial) 2048 e) }
+    record { counted = h.counted; addresses = h.addresses; text = h.text; initial = more_words draft.initial w h.initial hw (ltb-true (length draft.initial) 2048 e) }
 
 word_kept : (s : Section) (w : ℕ) (draft : Draft) → IsWord w → IsFitDraft draft → IfOk (with_word s w draft) IsFitDraft
 word_kept section.Text w draft hw h = text_by draft w hw h (nat_lt (length draft.text) 2048) refl
 word_kept section.Data w draft hw h = initial_by draft w hw h (nat_lt (length draft.initial) 2048) refl
 
--- a value that is known is at most so much
+-- a known value that passed the test is at most this
 known_fits : (most : ℕ) (v : Value) → is_above most v ≡ false → IfOk (known v) (λ n. n ≤ most)
 known_fits most (value.Known n) e = ltb-false most n e
 known_fits most value.Missing e = tt
 
-counted_after : (o : Option Class) (entries : List (Option ℕ)) (place : ℕ) (given : Option ℕ) → AreCounted o entries → AreCounted o (slice_set entries place given)
-counted_after None entries place given h = tt
-counted_after (Some c) entries place given h = length-set entries place given ∙ h
+counted_after : (o : Option Class) (entries : List (Option ℕ)) (index : ℕ) (given : Option ℕ) → AreCounted o entries → AreCounted o (slice_set entries index given)
+counted_after None entries index given h = tt
+counted_after (Some c) entries index given h = length-set entries index given ∙ h
 
-entry_kept : (draft : Draft) (place n : ℕ) → n ≤ 2047 → IsFitDraft draft → IsFitDraft (record draft { entries = slice_set draft.entries place (Some n) })
-entry_kept draft place n hn h = record {
-  counted = counted_after draft.class draft.entries place (Some n) h.counted;
-  places = All-set IsPlaceIfGiven draft.entries place (Some n) hn h.places;
+entry_kept : (draft : Draft) (index n : ℕ) → n ≤ 2047 → IsFitDraft draft → IsFitDraft (record draft { entries = slice_set draft.entries index (Some n) })
+entry_kept draft index n hn h = record {
+  counted = counted_after draft.class draft.entries index (Some n) h.counted;
+  addresses = All-set IsAddressIfGiven draft.entries index (Some n) hn h.addresses;
   text = h.text;
   initial = h.initial;
 }
@@ -305,7 +305,7 @@ entry_kept draft place n hn h = record {
 class_kept : (c : Class) (draft : Draft) → IsFitDraft draft → IsFitDraft (with_class c draft)
 class_kept c draft h = record {
   counted = length-replicate (entry_count c) None;
-  places = All-replicate IsPlaceIfGiven (entry_count c) None tt;
+  addresses = All-replicate IsAddressIfGiven (entry_count c) None tt;
   text = h.text;
   initial = h.initial;
 }
@@ -313,10 +313,10 @@ class_kept c draft h = record {
 statement_kept : (says : Statement) (draft : Draft) → IsFit says → is_out_of_range says ≡ false → IsFitDraft draft → IfOk (with_statement says draft) IsFitDraft
 statement_kept statement.Nothing draft f e h = h
 statement_kept (statement.Class c) draft f e h = class_kept c draft h
-statement_kept (statement.Entry place v) draft f e h =
-    chained (λ n. n ≤ 2047) IsFitDraft (known v) (λ n. let next : Result Draft AsmKind = Ok (record draft { entries = slice_set draft.entries place (Some n) }) in next)
-    (known_fits 2047 v e) (λ n hn. entry_kept draft place n hn h)
-statement_kept (statement.Section s) draft f e h = record { counted = h.counted; places = h.places; text = h.text; initial = h.initial }
+statement_kept (statement.Entry index v) draft f e h =
+    chained (λ n. n ≤ 2047) IsFitDraft (known v) (λ n. let next : Result Draft AsmKind = Ok (record draft { entries = slice_set draft.entries index (Some n) }) in next)
+    (known_fits 2047 v e) (λ n hn. entry_kept draft index n hn h)
+statement_kept (statement.Section s) draft f e h = record { counted = h.counted; addresses = h.addresses; text = h.text; initial = h.initial }
 statement_kept (statement.Word v) draft f e h =
     chained (λ n. n ≤ 4294967295) IsFitDraft (known v) (λ n. with_word draft.in_section n draft)
     (known_fits 4294967295 v e) (λ n hn. word_kept draft.in_section n draft (omega (arith, hn)) h)
@@ -356,29 +356,29 @@ lines_kept labels line (first ∷ more) draft h =
 
 -- ---- images
 
--- as many places as entries
-abbrev pub ArePlacesOf : ℕ → Option (List ℕ) → Type 0
-ArePlacesOf n None = Unit {0}
-ArePlacesOf n (Some places) = (length places ≡ n) × All IsTextPlace places
+-- as many addresses in the text as entries
+abbrev pub ArePointsOf : ℕ → Option (List ℕ) → Type 0
+ArePointsOf n None = Unit {0}
+ArePointsOf n (Some addresses) = (length addresses ≡ n) × All IsTextAddress addresses
 
-one_given : (n place : ℕ) (o : Option (List ℕ)) → IsTextPlace place → ArePlacesOf n o → ArePlacesOf (n + 1) (option_map (place ∷◌) o)
-one_given n place None h k = tt
-one_given n place (Some places) h k = (omega (arith, k.0), All-cons IsTextPlace place places h k.1)
+one_given : (n index : ℕ) (o : Option (List ℕ)) → IsTextAddress index → ArePointsOf n o → ArePointsOf (n + 1) (option_map (index ∷◌) o)
+one_given n index None h k = tt
+one_given n index (Some addresses) h k = (omega (arith, k.0), All-cons IsTextAddress index addresses h k.1)
 
-given_hold : (entries : List (Option ℕ)) → All IsPlaceIfGiven entries → ArePlacesOf (length entries) (all_given entries)
-given_hold [] h = (refl, All-nil IsTextPlace)
+given_hold : (entries : List (Option ℕ)) → All IsAddressIfGiven entries → ArePointsOf (length entries) (all_given entries)
+given_hold [] h = (refl, All-nil IsTextAddress)
 given_hold (None ∷ more) h = tt
-given_hold (Some place ∷ more) h =
-    let later : ArePlacesOf (length more + 1) (all_given (Some place ∷ more)) =
-    one_given (length more) place (all_given more) (All-head IsPlaceIfGiven (Some place) more h) (given_hold more (All-tail IsPlaceIfGiven (Some place) more h)) in
-    let same : length more + 1 ≡ length (Some place ∷ more) = omega arith in
-    subst (λ n. ArePlacesOf n (all_given (Some place ∷ more))) same later
+given_hold (Some index ∷ more) h =
+    let later : ArePointsOf (length more + 1) (all_given (Some index ∷ more)) =
+    one_given (length more) index (all_given more) (All-head IsAddressIfGiven (Some index) more h) (given_hold more (All-tail IsAddressIfGiven (Some index) more h)) in
+    let same : length more + 1 ≡ length (Some index ∷ more) = omega arith in
+    subst (λ n. ArePointsOf n (all_given (Some index ∷ more))) same later
 
-image_by : (draft : Draft) → IsFitDraft draft → (c : Option Class) (entries : Option (List ℕ)) → AreCounted c draft.entries → ArePlacesOf (length draft.entries) entries
+image_by : (draft : Draft) → IsFitDraft draft → (c : Option Class) (entries : Option (List ℕ)) → AreCounted c draft.entries → ArePointsOf (length draft.entries) entries
     → IfOk (image_with c entries draft) IsValidImage
-image_by draft h (Some c) (Some entries) counted placed = record { entries = placed.0 ∙ counted; places = placed.1; text = h.text; initial = h.initial }
-image_by draft h (Some c) None counted placed = tt
-image_by draft h None entries counted placed = tt
+image_by draft h (Some c) (Some entries) counted indexed = record { entries = indexed.0 ∙ counted; addresses = indexed.1; text = h.text; initial = h.initial }
+image_by draft h (Some c) None counted indexed = tt
+image_by draft h None entries counted indexed = tt
 
 pub assembled_is_valid : (text : List ℕ) → IfOk (assembled text) IsValidImage
 unfolding assembled
@@ -388,4 +388,4 @@ assembled_is_valid text =
     chained IsFitDraft IsValidImage (draft_from labels 1 lines first_draft) (λ draft. at_line (length lines + 1) (image_with draft.class (all_given draft.entries) draft))
     (lines_kept labels 1 lines first_draft first_fits)
     (λ draft h. at_line_kept IsValidImage (length lines + 1) (image_with draft.class (all_given draft.entries) draft)
-    (image_by draft h draft.class (all_given draft.entries) h.counted (given_hold draft.entries h.places)))
+    (image_by draft h draft.class (all_given draft.entries) h.counted (given_hold draft.entries h.addresses)))

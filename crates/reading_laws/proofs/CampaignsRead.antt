@@ -1,4 +1,4 @@
--- A campaign that is read keeps its limits.
+-- A campaign that was read is within its limits.
 use Rattle.std.proofs.Common.{◌≡◌, refl, ℕ, ◌-◌, ◌≤◌, Bool, true, false, nat_lt, List, [], ◌∷◌, length, arith}
 use Rattle.std.specs.Prelude.{Result, Ok, IfOk, All, ⊤}
 use Rattle.std.proofs.lemmas.Bool.{ltb-false}
@@ -31,7 +31,7 @@ faults_hold d = each_holds IsValidFault (λ earlier. fault_of) 1 4096 (λ earlie
 
 -- ---- limits of the scenario
 
--- what is not refused does not pass the test
+-- if nothing was refused, the test was false
 unrefused : (test : Bool) (why : InputFault) → IfOk (refuse_if test why) (λ _. test ≡ false)
 unrefused true why = tt
 unrefused false why = refl
@@ -50,9 +50,9 @@ own_hold : (part : ℕ) (own : List Fault) → IfOk (check_own_faults part own) 
 own_hold part own =
     let check = refuse_if (nat_lt 63 (length own)) fault.TooMany in
     let P = λ (passes : ⊤). length own ≤ 63 in
-    beneath P (step.At key.Base) (under (step.At key.Parts) (under (step.Place part) (under (step.At key.Faults) check)))
-    (beneath P (step.At key.Parts) (under (step.Place part) (under (step.At key.Faults) check))
-    (beneath P (step.Place part) (under (step.At key.Faults) check) (beneath P (step.At key.Faults) check (at_most 63 (length own)))))
+    beneath P (step.At key.Base) (under (step.At key.Parts) (under (step.Position part) (under (step.At key.Faults) check)))
+    (beneath P (step.At key.Parts) (under (step.Position part) (under (step.At key.Faults) check))
+    (beneath P (step.Position part) (under (step.At key.Faults) check) (beneath P (step.At key.Faults) check (at_most 63 (length own)))))
 
 abbrev HasRoom : Scenario → ℕ → Type 0
 HasRoom base part = (ops_count base.threads ≤ 64) × (length (faults_at base.parts part) ≤ 63)
@@ -80,7 +80,7 @@ valid_campaign base part faults hb hp hf hl = record {
   room = hl.1;
 }
 
--- the steps of the reading, from the last to the first
+-- the steps of the reading, last to first
 
 abbrev reads_limits : Scenario → ℕ → List Fault → Result Campaign Refusal
 reads_limits base part faults = check_base base part >>= λ limits. let read : Result Campaign Refusal = Ok (campaign_with base part faults) in read

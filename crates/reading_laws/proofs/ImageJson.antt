@@ -23,7 +23,7 @@ use Rattle.asm_defs.proofs.AsmWhole.{Low, low_from, five, six}
 use Rattle.input_defs.proofs.ImageBack.{image_back}
 use Rattle.reading_laws.proofs.PlainData.{IsPlain, ArePlain, ArePlainMembers, put_plain, json_with_feed}
 
--- ---- the value is of texts and unsigned numbers
+-- ---- the value has only texts and unsigned numbers
 
 abbrev IsGlyphByte : ℕ → Type 0
 IsGlyphByte d = are_ascii (digit_glyph false d ∷ []) ≡ true
@@ -80,14 +80,14 @@ image_plain n image deep valid = (
       (0, omega arith, words_plain image.initial),
       (
         IsUtf8-are_ascii (codes "entries") refl,
-        (0, omega arith, entries_plain (entry_keys image.class) image.entries no_members (keys_are_texts image.class) (low_from image.entries valid.places) tt),
+        (0, omega arith, entries_plain (entry_keys image.class) image.entries no_members (keys_are_texts image.class) (low_from image.entries valid.addresses) tt),
         (IsUtf8-are_ascii (codes "text") refl, (0, omega arith, words_plain image.text), tt),
       ),
     ),
   ),
 )
 
--- ---- the value comes back
+-- ---- reading returns the value
 
 words_read : (ws : List ℕ) → of_items (items_outline (word_items ws)) ≡ Some (word_items ws)
 words_read [] = refl
@@ -122,7 +122,7 @@ entries_read class.Sound es h = six (Entries class.Sound) es h sound_read
 pub image_read : (image : Image) → IsValidImage image → of_json (outline (image_data image)) ≡ Some (image_data image)
 unfolding image_data Entries
 image_read image valid =
-    rw (words_read image.initial, entries_read image.class image.entries valid.entries (low_from image.entries valid.places), words_read image.text) refl
+    rw (words_read image.initial, entries_read image.class image.entries valid.entries (low_from image.entries valid.addresses), words_read image.text) refl
 
 pub text_comes_back : (image : Image) → IsValidImage image → image_from (image_text image) ≡ Ok image
 unfolding image_from image_text

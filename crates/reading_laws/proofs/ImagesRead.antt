@@ -1,4 +1,4 @@
--- The image of a JSON text keeps the limits of images.
+-- The image of a JSON text is within the limits of images.
 use Rattle.std.proofs.Common.{◌≡◌, ◌∙◌, refl, sym, subst, ap, ℕ, ◌+◌, ◌<◌, ◌≤◌, ◌^◌, ◌==◌, ◌&&◌, Bool, true, false, List, [], ◌∷◌, ◌++◌, length, arith, length-append, if◌then◌else◌}
 use Rattle.std.specs.Prelude.{Result, Ok, Err, IfOk, All}
 use Rattle.std.specs.List.{list_all}
@@ -9,13 +9,13 @@ use Rattle.std.proofs.lemmas.Int.Digits.{digits_value-lt}
 use Rattle.std.proofs.lemmas.List.Elements.{All-nil, All-push}
 use Rattle.serde_json.specs.Data.{Data}
 use Rattle.nook_data.specs.Classes.{entry_count}
-use Rattle.input_defs.specs.ImageReading.{known_class, hex_word, words_of, places_from, entries_of, image_of}
+use Rattle.input_defs.specs.ImageReading.{known_class, hex_word, words_of, addresses_from, entries_of, image_of}
 use Rattle.input_defs.specs.Views.Readings.{is_hex_digit, text_word}
 use Rattle.asm_defs.specs.Keys.{entry_keys}
 use Rattle.input_defs.specs.Reading.{bad, text_of, object_with, required, number_at}
 use Rattle.asm_defs.specs.Results.{◌>>=◌}
 use Rattle.nook_data.specs.Valid.{AreWords, IsValidImage, IsWord}
-use Rattle.nook_data.specs.Views.Limits.{IsTextPlace}
+use Rattle.nook_data.specs.Views.Limits.{IsTextAddress}
 use Rattle.nook_data.specs.declared.classes.Class.{Class}
 use Rattle.nook_data.specs.declared.classes.Class.TheVariants as class
 use Rattle.nook_data.specs.declared.scenario.Image.{Image}
@@ -50,38 +50,38 @@ words_hold d = less (Listed (All IsWord) 0 2048) (AreWords 2048) (words_of d) (e
 
 -- ---- entries
 
-abbrev Placed : ℕ → List ℕ → Type 0
-Placed n places = (length places ≡ n) × All IsTextPlace places
+abbrev IsAddressOf : ℕ → List ℕ → Type 0
+IsAddressOf n addresses = (length addresses ≡ n) × All IsTextAddress addresses
 
-places_hold : (keys : List Key) (earlier : List ℕ) (d : Data) → All IsTextPlace earlier
-    → IfOk (places_from keys earlier d) (Placed (length earlier + length keys))
-places_hold [] earlier d h = (omega arith, h)
-places_hold (entry ∷ more) earlier d h =
-    chained (IsBetween 0 2047) (Placed (length earlier + length (entry ∷ more))) (number_at entry 0 2047 d) (λ place. places_from more (earlier ++ place ∷ []) d)
+positions_hold : (keys : List Key) (earlier : List ℕ) (d : Data) → All IsTextAddress earlier
+    → IfOk (addresses_from keys earlier d) (IsAddressOf (length earlier + length keys))
+positions_hold [] earlier d h = (omega arith, h)
+positions_hold (entry ∷ more) earlier d h =
+    chained (IsBetween 0 2047) (IsAddressOf (length earlier + length (entry ∷ more))) (number_at entry 0 2047 d) (λ address. addresses_from more (earlier ++ address ∷ []) d)
     (number_at_holds entry 0 2047 d)
-    (λ place b. less (Placed (length (earlier ++ place ∷ []) + length more)) (Placed (length earlier + length (entry ∷ more))) (places_from more (earlier ++ place ∷ []) d)
-    (places_hold more (earlier ++ place ∷ []) d (All-push IsTextPlace earlier place h b.1))
-    (λ places p. (omega (arith, p.0, length-append earlier (place ∷ [])), p.1)))
+    (λ address b. less (IsAddressOf (length (earlier ++ address ∷ []) + length more)) (IsAddressOf (length earlier + length (entry ∷ more))) (addresses_from more (earlier ++ address ∷ []) d)
+    (positions_hold more (earlier ++ address ∷ []) d (All-push IsTextAddress earlier address h b.1))
+    (λ addresses p. (omega (arith, p.0, length-append earlier (address ∷ [])), p.1)))
 
 count_keys : (c : Class) → length (entry_keys c) ≡ entry_count c
 count_keys class.Block = refl
 count_keys class.Net = refl
 count_keys class.Sound = refl
 
-entries_hold : (c : Class) (d : Data) → IfOk (entries_of c d) (Placed (entry_count c))
+entries_hold : (c : Class) (d : Data) → IfOk (entries_of c d) (IsAddressOf (entry_count c))
 entries_hold c d =
-    passed (Placed (entry_count c)) (object_with (entry_keys c) d) (λ known. places_from (entry_keys c) [] d)
-    (λ known. less (Placed (0 + length (entry_keys c))) (Placed (entry_count c)) (places_from (entry_keys c) [] d)
-    (places_hold (entry_keys c) [] d (All-nil IsTextPlace))
-    (λ places p. (omega (arith, p.0, count_keys c), p.1)))
+    passed (IsAddressOf (entry_count c)) (object_with (entry_keys c) d) (λ known. addresses_from (entry_keys c) [] d)
+    (λ known. less (IsAddressOf (0 + length (entry_keys c))) (IsAddressOf (entry_count c)) (addresses_from (entry_keys c) [] d)
+    (positions_hold (entry_keys c) [] d (All-nil IsTextAddress))
+    (λ addresses p. (omega (arith, p.0, count_keys c), p.1)))
 
 -- ---- images
 
-valid_image : (c : Class) (entries text initial : List ℕ) → Placed (entry_count c) entries → AreWords 2048 text → AreWords 2048 initial
+valid_image : (c : Class) (entries text initial : List ℕ) → IsAddressOf (entry_count c) entries → AreWords 2048 text → AreWords 2048 initial
     → IsValidImage (record { class = c; entries = entries; text = text; initial = initial })
-valid_image c entries text initial he ht hi = record { entries = he.0; places = he.1; text = ht; initial = hi }
+valid_image c entries text initial he ht hi = record { entries = he.0; addresses = he.1; text = ht; initial = hi }
 
--- the steps of the reading, from the last to the first
+-- the steps of the reading, last to first
 
 abbrev reads_text : Data → Class → List ℕ → List ℕ → Result Image Refusal
 reads_text d c initial entries =
@@ -93,7 +93,7 @@ reads_entries d c initial = required key.Entries (entries_of c) d >>= reads_text
 abbrev reads_initial : Data → Class → Result Image Refusal
 reads_initial d c = required key.Data words_of d >>= reads_entries d c
 
-text_holds : (d : Data) (c : Class) (initial entries : List ℕ) → AreWords 2048 initial → Placed (entry_count c) entries → IfOk (reads_text d c initial entries) IsValidImage
+text_holds : (d : Data) (c : Class) (initial entries : List ℕ) → AreWords 2048 initial → IsAddressOf (entry_count c) entries → IfOk (reads_text d c initial entries) IsValidImage
 text_holds d c initial entries hi he =
     chained (AreWords 2048) IsValidImage (required key.Text words_of d)
     (λ text. let read : Result Image Refusal = Ok (record { class = c; entries = entries; text = text; initial = initial }) in read)
@@ -102,8 +102,8 @@ text_holds d c initial entries hi he =
 
 entries_then : (d : Data) (c : Class) (initial : List ℕ) → AreWords 2048 initial → IfOk (reads_entries d c initial) IsValidImage
 entries_then d c initial hi =
-    chained (Placed (entry_count c)) IsValidImage (required key.Entries (entries_of c) d) (reads_text d c initial)
-    (required_holds (Placed (entry_count c)) key.Entries (entries_of c) d (entries_hold c))
+    chained (IsAddressOf (entry_count c)) IsValidImage (required key.Entries (entries_of c) d) (reads_text d c initial)
+    (required_holds (IsAddressOf (entry_count c)) key.Entries (entries_of c) d (entries_hold c))
     (λ entries he. text_holds d c initial entries hi he)
 
 initial_then : (d : Data) (c : Class) → IfOk (reads_initial d c) IsValidImage

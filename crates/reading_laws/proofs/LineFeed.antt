@@ -1,4 +1,4 @@
--- A line feed behind printed tokens changes nothing.
+-- A line feed after printed tokens changes nothing.
 use Rattle.std.proofs.Common.{◌≡◌, ℕ, Bool, true, false, cond, ◌&&◌, List, [], ◌∷◌, ◌++◌, refl, sym, ap, ap₂, ◌∙◌, append_assoc}
 use Rattle.json.specs.Token.{Token, begin_object, end_object, begin_array, end_array, key, string, number, boolean, null, bad}
 use Rattle.json.specs.Word.{ends_word, word}
@@ -40,7 +40,7 @@ token_read (boolean false) r h ended = ap₂ (λ b l. token (cond b (boolean fal
 token_read null r h ended = ap₂ (λ b l. token (cond b null bad) ∷ l) (ended refl) (in_word-ended r (ended refl))
 token_read bad r h ended = absurd h
 
--- after a value stands a comma, a closing bracket or the end
+-- a value is followed by a comma, a closing bracket or the end
 value_ends : (ts : List Token) → (ends_word (print_from true ts) ≡ true) × (ends_word (print_from true ts ++ 10 ∷ []) ≡ true)
 unfolding print_from
 value_ends [] = (refl, refl)

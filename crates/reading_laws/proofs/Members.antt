@@ -1,4 +1,4 @@
--- The scenario of a member of a valid campaign keeps every limit: the struck part has room for one more fault.
+-- The scenario of each member of a valid campaign is within every limit: the struck part has room for one more fault.
 use Rattle.std.proofs.Common.{◌≡◌, ◌∙◌, refl, sym, subst, ap, ℕ, zero, suc, ◌≤◌, true, List, [], ◌∷◌, ◌++◌, length, Option, Some, None, arith, length-append}
 use Rattle.std.specs.Prelude.{All, slice_get}
 use Rattle.std.proofs.lemmas.List.Elements.{All-cons, All-head, All-push, All-same, All-tail}
@@ -33,33 +33,33 @@ still_valid fault part h few f = record {
 
 -- ---- all parts
 
-struck_behind : (part : PartSpec) (more : List PartSpec) (place : ℕ) (fault : Fault) (o : Option PartSpec)
-    → with_struck (part ∷ more) (suc place) fault o ≡ part ∷ with_struck more place fault o
-struck_behind part more place fault None = refl
-struck_behind part more place fault (Some x) = refl
+struck_after : (part : PartSpec) (more : List PartSpec) (index : ℕ) (fault : Fault) (o : Option PartSpec)
+    → with_struck (part ∷ more) (suc index) fault o ≡ part ∷ with_struck more index fault o
+struck_after part more index fault None = refl
+struck_after part more index fault (Some x) = refl
 
-parts_valid : (parts : List PartSpec) (place : ℕ) (fault : Fault) → All IsValidPart parts → length (faults_at parts place) ≤ 63 → IsValidFault fault
-    → All IsValidPart (struck_parts parts place fault)
-parts_valid [] place fault h few f = h
+parts_valid : (parts : List PartSpec) (index : ℕ) (fault : Fault) → All IsValidPart parts → length (faults_at parts index) ≤ 63 → IsValidFault fault
+    → All IsValidPart (struck_parts parts index fault)
+parts_valid [] index fault h few f = h
 parts_valid (part ∷ more) zero fault h few f =
     All-cons IsValidPart (with_fault fault part) more (still_valid fault part (All-head IsValidPart part more h) few f) (All-tail IsValidPart part more h)
-parts_valid (part ∷ more) (suc place) fault h few f =
-    All-same IsValidPart (struck_parts (part ∷ more) (suc place) fault) (part ∷ struck_parts more place fault)
-    (struck_behind part more place fault (slice_get more place))
-    (All-cons IsValidPart part (struck_parts more place fault) (All-head IsValidPart part more h)
-    (parts_valid more place fault (All-tail IsValidPart part more h) few f))
+parts_valid (part ∷ more) (suc index) fault h few f =
+    All-same IsValidPart (struck_parts (part ∷ more) (suc index) fault) (part ∷ struck_parts more index fault)
+    (struck_after part more index fault (slice_get more index))
+    (All-cons IsValidPart part (struck_parts more index fault) (All-head IsValidPart part more h)
+    (parts_valid more index fault (All-tail IsValidPart part more h) few f))
 
-same_names : (parts : List PartSpec) (place : ℕ) (fault : Fault) → part_names (struck_parts parts place fault) ≡ part_names parts
-same_names [] place fault = refl
+same_names : (parts : List PartSpec) (index : ℕ) (fault : Fault) → part_names (struck_parts parts index fault) ≡ part_names parts
+same_names [] index fault = refl
 same_names (part ∷ more) zero fault = refl
-same_names (part ∷ more) (suc place) fault =
-    ap part_names (struck_behind part more place fault (slice_get more place)) ∙ ap (λ names. part.name ∷ names) (same_names more place fault)
+same_names (part ∷ more) (suc index) fault =
+    ap part_names (struck_after part more index fault (slice_get more index)) ∙ ap (λ names. part.name ∷ names) (same_names more index fault)
 
-pub same_count : (parts : List PartSpec) (place : ℕ) (fault : Fault) → length (struck_parts parts place fault) ≡ length parts
-same_count [] place fault = refl
+pub same_count : (parts : List PartSpec) (index : ℕ) (fault : Fault) → length (struck_parts parts index fault) ≡ length parts
+same_count [] index fault = refl
 same_count (part ∷ more) zero fault = refl
-same_count (part ∷ more) (suc place) fault =
-    ap length (struck_behind part more place fault (slice_get more place)) ∙ ap suc (same_count more place fault)
+same_count (part ∷ more) (suc index) fault =
+    ap length (struck_after part more index fault (slice_get more index)) ∙ ap suc (same_count more index fault)
 
 -- ---- the scenario
 

@@ -1,4 +1,4 @@
--- A list of names that differ stays one with a name that is not among them.
+-- Names stay distinct if one is added that is not among them.
 use Rattle.std.proofs.Common.{◌≡◌, ◌∙◌, refl, sym, ap, ℕ, Bool, true, false, not, ◌||◌, ◌&&◌, List, [], ◌∷◌, ◌++◌, if◌then◌else◌}
 use Rattle.std.specs.Prelude.{Result, Ok, Err, IfOk, bytes_eq}
 use Rattle.std.proofs.lemmas.Bool.{and_parts}
@@ -48,7 +48,7 @@ distinct_push (first ∷ more) name h k =
     (among_push more name first (not_true (is_among more first) parts.0) (other name first apart.0))
     (distinct_push more name parts.1 apart.1)
 
--- a name that none of the earlier ones is
+-- a valid name that differs from all earlier ones
 abbrev pub IsNewName : List (List ℕ) → List ℕ → Type 0
 IsNewName earlier name = (is_name name ≡ true) × (is_among earlier name ≡ false)
 

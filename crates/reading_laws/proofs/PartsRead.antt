@@ -1,4 +1,4 @@
--- A part that is read keeps the limits of parts.
+-- A part that was read is within the limits of parts.
 use Rattle.std.proofs.Common.{◌≡◌, ◌∙◌, refl, sym, subst, ap, ℕ, ◌+◌, ◌-◌, ◌<◌, ◌≤◌, ◌^◌, ◌==◌, ◌&&◌, Bool, true, false, not, List, [], ◌∷◌, ◌++◌, length, Option, Some, None, arith, lit≤, if◌then◌else◌}
 use Rattle.std.specs.Prelude.{Result, Ok, Err, IfOk, All, is_some}
 use Rattle.std.proofs.lemmas.Bool.{eqb-true}
@@ -67,7 +67,7 @@ code_valid address value h k = (h, k)
 reg_valid : (register value : ℕ) → IsBetween 0 15 register → IsWord value → IsValidKind (strikes.Reg register value)
 reg_valid register value h k = (h.1, k)
 
--- two numbers, the second of them a word
+-- two numbers, of which the second is a word
 two_numbers : (P : ℕ → Type 0) (r : Result ℕ Refusal) (d : Data) (makes : ℕ → ℕ → FaultKind) → IfOk r P
     → ((first second : ℕ) → P first → IsWord second → IsValidKind (makes first second))
     → IfOk (r >>= λ first. number_at key.Value 0 4294967295 d >>= λ second. let read : Result FaultKind Refusal = Ok (makes first second) in read) IsValidKind
@@ -160,7 +160,7 @@ image_or_asm : (o : Option Data) (d : Data) → IfOk (driver_image o d) IsValidI
 image_or_asm (Some text) d = beneath IsValidImage (step.At key.Asm) (asm_of text) (asm_holds text)
 image_or_asm None d = required_holds IsValidImage key.Image image_of d image_is_valid
 
--- an image of a class
+-- a valid image of this class
 abbrev pub IsImageOf : Class → Image → Type 0
 IsImageOf c image = IsValidImage image × (image.class ≡ c)
 
@@ -249,7 +249,7 @@ bads_listed class.Block blocks bad h = h
 bads_listed class.Net blocks bad h = subst (Listed (All (IsValidBadBlock blocks)) 0 64) (sym h) (no_bads blocks)
 bads_listed class.Sound blocks bad h = subst (Listed (All (IsValidBadBlock blocks)) 0 64) (sym h) (no_bads blocks)
 
--- a valid part with a name of its own
+-- a valid part whose name differs from the earlier ones
 abbrev pub IsNewPart : List PartSpec → PartSpec → Type 0
 IsNewPart earlier part = IsValidPart part × (is_among (part_names earlier) part.name ≡ false)
 
@@ -274,7 +274,7 @@ new_part earlier name c blocks bad limit image faults arrivals hn hb hd hl hi hf
 no_faults : Listed (All IsValidFault) 0 64 []
 no_faults = (All-nil IsValidFault, omega arith, omega arith)
 
--- the steps of the reading, from the last to the first
+-- the steps of the reading, last to first
 
 abbrev reads_arrivals : Data → Class → List ℕ → ℕ → List BadBlock → ℕ → Image → List Fault → Result PartSpec Refusal
 reads_arrivals d c name blocks bad limit image faults =
@@ -353,7 +353,7 @@ names_push : (parts : List PartSpec) (part : PartSpec) → part_names (parts ++ 
 names_push [] part = refl
 names_push (first ∷ more) part = ap (λ names. first.name ∷ names) (names_push more part)
 
--- valid parts whose names differ
+-- valid parts with distinct names
 abbrev pub ArePartsRead : List PartSpec → Type 0
 ArePartsRead parts = All IsValidPart parts × (are_distinct (part_names parts) ≡ true)
 

@@ -1,4 +1,4 @@
--- A value of texts and unsigned numbers, written with a line feed behind it, reads back.
+-- A value of texts and unsigned numbers, written with a line feed at the end, reads back.
 use Rattle.std.proofs.Common.{◌≡◌, ℕ, ◌^◌, ◌<◌, ◌≤◌, Bool, true, false, IsUtf8, Ordering, Less, Equal, Greater, Some, option_and_then, List, [], ◌∷◌, ◌++◌, decimal, refl, sym, ap, ◌∙◌, arith, append-nil}
 use Rattle.std.specs.Prelude.{⊤, Ok}
 use Rattle.std.specs.Ordering.{nat_cmp, match_ordering}
@@ -21,7 +21,7 @@ use Rattle.serde_json.proofs.Texts.{print-outline}
 use Rattle.input_defs.specs.Reading.{is_utf8, json_of}
 use Rattle.reading_laws.proofs.LineFeed.{tokens_with_feed}
 
--- texts and unsigned numbers, nested at most so deep
+-- texts and unsigned numbers, nested up to a given depth
 abbrev pub IsPlainNumber : Num → Type 0
 IsPlainNumber (unsigned n) = n < 2 ^ 64
 IsPlainNumber (negative z) = ⊥
@@ -44,7 +44,7 @@ abbrev mutual
   ArePlainMembers n no_members = ⊤
   ArePlainMembers n (member k d ms) = IsUtf8 k × IsPlain n d × ArePlainMembers n ms
 
--- ---- a member more
+-- ---- one more member
 
 one_of : (o : Ordering) (n : ℕ) (a b c : Members) → ArePlainMembers n a → ArePlainMembers n b → ArePlainMembers n c → ArePlainMembers n (match_ordering o a b c)
 one_of Less n a b c p q r = p
@@ -152,7 +152,7 @@ tokens_with_line_feed n d h =
     ap (λ text. tokens (text ++ 10 ∷ [])) (sym (print-outline d))
     ∙ tokens_with_feed (tree.json_tokens (outline d)) (ArePrintable-json_tokens (outline d) (has_numbers n d h))
 
--- a text that has the tokens of a value is read as what the value's JSON is read as
+-- a text with the tokens of a value is read as the value that those tokens mean
 read_by_tokens : (text : List ℕ) (d e : Data) → IsPlain max_depth d → tokens text ≡ tree.json_tokens (outline d) → of_json (outline d) ≡ Some e → read text ≡ Some e
 read_by_tokens text d e h same back =
     ap (λ ts. option_and_then of_json (option_and_then (λ p. json.if_last p.0 p.1) (json.value max_depth ts)))

@@ -1,4 +1,4 @@
--- A campaign with members, kinds of fault, a guard and details that is read keeps its limits.
+-- A campaign with members, kinds of fault, a guard and details that was read is within its limits.
 use Rattle.std.proofs.Common.{◌≡◌, ℕ, suc, ◌+◌, ◌-◌, ◌≤◌, Bool, true, false, nat_lt, List, [], ◌∷◌, length, Option, Some, None, arith}
 use Rattle.std.specs.Prelude.{Result, Ok, IfOk, All, ⊤}
 use Rattle.serde_json.specs.Data.{Data}
@@ -73,22 +73,22 @@ strikes_hold None None d =
 
 -- ---- limits
 
-count_holds : (place count : ℕ) → IfOk (check_count place count) (λ _. count ≤ 64)
-count_holds place count =
+count_holds : (index count : ℕ) → IfOk (check_count index count) (λ _. count ≤ 64)
+count_holds index count =
     let check = refuse_if (nat_lt 64 count) fault.TooMany in
     let P = λ (passes : ⊤). count ≤ 64 in
-    beneath P (step.At key.Base) (under (step.At key.Parts) (under (step.Place place) (under (step.At key.Faults) check)))
-    (beneath P (step.At key.Parts) (under (step.Place place) (under (step.At key.Faults) check))
-    (beneath P (step.Place place) (under (step.At key.Faults) check) (beneath P (step.At key.Faults) check (at_most 64 count))))
+    beneath P (step.At key.Base) (under (step.At key.Parts) (under (step.Position index) (under (step.At key.Faults) check)))
+    (beneath P (step.At key.Parts) (under (step.Position index) (under (step.At key.Faults) check))
+    (beneath P (step.Position index) (under (step.At key.Faults) check) (beneath P (step.At key.Faults) check (at_most 64 count))))
 
-traps_hold : (struck more place : ℕ) (parts : List PartSpec) → IfOk (check_traps struck more place parts) (λ _. HaveRoom struck more place parts)
-traps_hold struck more place [] = tt
-traps_hold struck more place (part ∷ parts) =
-    let count = length part.faults + more_faults struck more place + (part.limit + 1) in
-    chained (λ _. count ≤ 64) (λ _. HaveRoom struck more place (part ∷ parts)) (check_count place count)
-    (λ room. check_traps struck more (suc place) parts) (count_holds place count)
-    (λ room h. less (λ _. HaveRoom struck more (suc place) parts) (λ _. HaveRoom struck more place (part ∷ parts))
-    (check_traps struck more (suc place) parts) (traps_hold struck more (suc place) parts) (λ passes k. (h, k)))
+traps_hold : (struck more index : ℕ) (parts : List PartSpec) → IfOk (check_traps struck more index parts) (λ _. HaveRoom struck more index parts)
+traps_hold struck more index [] = tt
+traps_hold struck more index (part ∷ parts) =
+    let count = length part.faults + more_faults struck more index + (part.limit + 1) in
+    chained (λ _. count ≤ 64) (λ _. HaveRoom struck more index (part ∷ parts)) (check_count index count)
+    (λ room. check_traps struck more (suc index) parts) (count_holds index count)
+    (λ room h. less (λ _. HaveRoom struck more (suc index) parts) (λ _. HaveRoom struck more index (part ∷ parts))
+    (check_traps struck more (suc index) parts) (traps_hold struck more (suc index) parts) (λ passes k. (h, k)))
 
 guard_holds : (guard : Bool) (struck more : ℕ) (parts : List PartSpec)
     → IfOk (check_guard guard struck more parts) (λ _. guard ≡ true → HaveRoom struck more 0 parts)
@@ -97,7 +97,7 @@ guard_holds true struck more parts =
     (traps_hold struck more 0 parts) (λ passes h e. h)
 guard_holds false struck more parts = λ e. absurd (cc e)
 
--- what the limits say of a scenario whose part at a place gets up to so many faults, with a guard or without
+-- what the limits say of a scenario whose part with this index gets up to `more` faults, with or without a guard
 abbrev HasRoom : Scenario → ℕ → ℕ → Bool → Type 0
 HasRoom base part more guard =
     (ops_count base.threads ≤ 64) × (length (faults_at base.parts part) + more ≤ 64) × (guard ≡ true → HaveRoom part more 0 base.parts)
@@ -128,7 +128,7 @@ valid_plan base part chosen guard detail hb hp hs hl = record {
   traps = hl.2;
 }
 
--- the steps of the reading, from the last to the first
+-- the steps of the reading, last to first
 
 abbrev reads_limits : Scenario → ℕ → Strikes → Bool → Bool → Result Plan Refusal
 reads_limits base part chosen guard detail =

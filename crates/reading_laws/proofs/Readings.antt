@@ -1,4 +1,4 @@
--- What holds of the values that readings give.
+-- Facts about the values that readings return.
 use Rattle.std.proofs.Common.{◌≡◌, ◌∙◌, refl, sym, subst, ap, ℕ, ◌+◌, ◌<◌, ◌≤◌, Bool, true, false, nat_lt, ◌||◌, List, [], ◌∷◌, ◌++◌, length, Option, Some, None, arith, length-append, if◌then◌else◌}
 use Rattle.std.specs.Prelude.{Result, Ok, Err, IfOk, All, option_and_then}
 use Rattle.std.proofs.lemmas.Bool.{ltb-false}
@@ -16,7 +16,7 @@ use Rattle.input_defs.specs.declared.input.PathStep.{PathStep}
 use Rattle.input_defs.specs.declared.input.PathStep.TheVariants as step
 use Rattle.input_defs.specs.declared.input.Refusal.{Refusal}
 
--- nothing is asked of what is read
+-- any reading fulfils the empty condition
 pub any : {T E : Type 0} (r : Result T E) → IfOk r (λ _. Unit {0})
 any (Ok x) = tt
 any (Err e) = tt
@@ -27,17 +27,17 @@ pub chained : {A B E : Type 0} (P : A → Type 0) (Q : B → Type 0) (r : Result
 chained P Q (Ok a) f h k = k a h
 chained P Q (Err e) f h k = tt
 
--- one reading after another of which nothing is asked
+-- one reading after another, with no condition on the first
 pub passed : {A B E : Type 0} (Q : B → Type 0) (r : Result A E) (f : A → Result B E) → ((a : A) → IfOk (f a) Q) → IfOk (r >>= f) Q
 passed Q (Ok a) f k = k a
 passed Q (Err e) f k = tt
 
--- less is asked
+-- a weaker condition also holds
 pub less : {A E : Type 0} (P Q : A → Type 0) (r : Result A E) → IfOk r P → ((a : A) → P a → Q a) → IfOk r Q
 less P Q (Ok a) h k = k a h
 less P Q (Err e) h k = tt
 
--- both are asked
+-- two conditions hold together
 pub both : {A E : Type 0} (P Q : A → Type 0) (r : Result A E) → IfOk r P → IfOk r Q → IfOk r (λ a. P a × Q a)
 both P Q (Ok a) h k = (h, k)
 both P Q (Err e) h k = tt
@@ -46,13 +46,13 @@ pub beneath : {T : Type 0} (P : T → Type 0) (at : PathStep) (r : Result T Refu
 beneath P at (Ok x) h = h
 beneath P at (Err e) h = tt
 
--- a value under a key that must be there
+-- a value at a required key
 pub required_holds : {T : Type 0} (P : T → Type 0) (key : Key) (of : Data → Result T Refusal) (d : Data)
     → ((d : Data) → IfOk (of d) P) → IfOk (required key of d) P
 required_holds P key of d h =
     beneath P (step.At key) (or_bad fault.MissingKey (get (key_text key) d) >>= of) (passed P (or_bad fault.MissingKey (get (key_text key) d)) of h)
 
--- a value under a key that may be left out
+-- a value at an optional key
 pub optional_holds : {T : Type 0} (P : T → Type 0) (key : Key) (of : Data → Result T Refusal) (default : T) (d : Data)
     → ((d : Data) → IfOk (of d) P) → P default → IfOk (optional key of default d) P
 optional_holds {T} P key of default d h k = by_value (get (key_text key) d)
@@ -87,28 +87,28 @@ number_or_holds key low high default d h = optional_holds (IsBetween low high) k
 
 -- ---- lists
 
--- what holds of the items so far holds of all
+-- if each reading of an item preserves a condition on the items so far, all items fulfil it
 pub items_hold : {T : Type 0} (P : List T → Type 0) (of : List T → Data → Result T Refusal)
     → ((earlier : List T) (d : Data) → P earlier → IfOk (of earlier d) (λ x. P (earlier ++ x ∷ [])))
-    → (earlier : List T) (place : ℕ) (items : Items) → P earlier → IfOk (items_from of earlier place items) P
-items_hold P of next earlier place no_items h = h
-items_hold P of next earlier place (item d more) h =
-    chained (λ x. P (earlier ++ x ∷ [])) P (under (step.Place place) (of earlier d)) (λ read. items_from of (earlier ++ read ∷ []) (place + 1) more)
-    (beneath (λ x. P (earlier ++ x ∷ [])) (step.Place place) (of earlier d) (next earlier d h))
-    (λ x hx. items_hold P of next (earlier ++ x ∷ []) (place + 1) more hx)
+    → (earlier : List T) (index : ℕ) (items : Items) → P earlier → IfOk (items_from of earlier index items) P
+items_hold P of next earlier index no_items h = h
+items_hold P of next earlier index (item d more) h =
+    chained (λ x. P (earlier ++ x ∷ [])) P (under (step.Position index) (of earlier d)) (λ read. items_from of (earlier ++ read ∷ []) (index + 1) more)
+    (beneath (λ x. P (earlier ++ x ∷ [])) (step.Position index) (of earlier d) (next earlier d h))
+    (λ x hx. items_hold P of next (earlier ++ x ∷ []) (index + 1) more hx)
 
--- as many are read as there are
-pub items_length : {T : Type 0} (of : List T → Data → Result T Refusal) (earlier : List T) (place : ℕ) (items : Items)
-    → IfOk (items_from of earlier place items) (λ xs. length xs ≡ length earlier + count_of items)
-items_length of earlier place no_items = omega arith
-items_length of earlier place (item d more) =
-    passed (λ xs. length xs ≡ length earlier + (count_of more + 1)) (under (step.Place place) (of earlier d)) (λ read. items_from of (earlier ++ read ∷ []) (place + 1) more)
+-- the list read has as many items as the array
+pub items_length : {T : Type 0} (of : List T → Data → Result T Refusal) (earlier : List T) (index : ℕ) (items : Items)
+    → IfOk (items_from of earlier index items) (λ xs. length xs ≡ length earlier + count_of items)
+items_length of earlier index no_items = omega arith
+items_length of earlier index (item d more) =
+    passed (λ xs. length xs ≡ length earlier + (count_of more + 1)) (under (step.Position index) (of earlier d)) (λ read. items_from of (earlier ++ read ∷ []) (index + 1) more)
     (λ x. less (λ xs. length xs ≡ length (earlier ++ x ∷ []) + count_of more) (λ xs. length xs ≡ length earlier + (count_of more + 1))
-    (items_from of (earlier ++ x ∷ []) (place + 1) more)
-    (items_length of (earlier ++ x ∷ []) (place + 1) more)
+    (items_from of (earlier ++ x ∷ []) (index + 1) more)
+    (items_length of (earlier ++ x ∷ []) (index + 1) more)
     (λ xs h. omega (arith, h, length-append earlier (x ∷ []))))
 
--- a list of least to most items of which something holds
+-- a list of least to most items that fulfils a condition
 abbrev pub Listed : {T : Type 0} → (List T → Type 0) → ℕ → ℕ → List T → Type 0
 Listed P least most xs = P xs × (least ≤ length xs) × (length xs ≤ most)
 
@@ -130,7 +130,7 @@ pub list_holds : {T : Type 0} (P : List T → Type 0) (of : List T → Data → 
 list_holds P of least most next h d = passed (Listed P least most) (or_bad fault.WrongKind (as_array d)) _
     (λ items. list_by P of least most next h items (nat_lt most (count_of items)) (nat_lt (count_of items) least) refl refl)
 
--- each item by itself
+-- a condition on each item separately
 pub each_holds : {T : Type 0} (P : T → Type 0) (of : List T → Data → Result T Refusal) (least most : ℕ)
     → ((earlier : List T) (d : Data) → IfOk (of earlier d) P)
     → (d : Data) → IfOk (list_of of least most d) (Listed (All P) least most)

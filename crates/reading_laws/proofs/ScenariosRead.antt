@@ -1,4 +1,4 @@
--- A scenario that is read keeps every limit.
+-- A scenario that was read is within every limit.
 use Rattle.std.proofs.Common.{◌≡◌, ◌∙◌, refl, sym, ap, ℕ, ◌+◌, ◌-◌, ◌<◌, ◌≤◌, ◌^◌, Bool, true, false, List, [], ◌∷◌, ◌++◌, length, arith}
 use Rattle.std.specs.Prelude.{Result, Ok, Err, IfOk, All, ⊤}
 use Rattle.std.proofs.lemmas.List.Elements.{All-nil, All-push}
@@ -72,7 +72,7 @@ op_words_hold k d =
     required_holds (AreWords 256) k op_words_of d
     (λ d'. less (Listed (All IsWord) 0 256) (AreWords 256) (op_words_of d') (numbers_hold 0 256 d') (λ words h. (h.2, h.0)))
 
--- an operation by one value, and by two
+-- an operation with one value, and one with two
 by_one : {A : Type 0} (P : A → Type 0) (r : Result A Refusal) (makes : A → Op) → IfOk r P → ((a : A) → P a → IsValidOp (makes a))
     → IfOk (r >>= λ a. let read : Result Op Refusal = Ok (makes a) in read) IsValidOp
 by_one P r makes h valid = chained P IsValidOp r (λ a. let read : Result Op Refusal = Ok (makes a) in read) h valid
@@ -128,7 +128,7 @@ ops_hold parts some d = each_holds (IsValidStep parts) (λ earlier. op_of parts)
 
 -- ---- threads
 
--- a valid thread with a name of its own
+-- a valid thread whose name differs from the earlier ones
 abbrev IsNewThread : ℕ → List ThreadSpec → ThreadSpec → Type 0
 IsNewThread parts earlier thread = IsValidThread parts thread × (is_among (thread_names earlier) thread.name ≡ false)
 
@@ -189,7 +189,7 @@ valid_scenario schedule parts threads hs hp ht = record {
   thread_names = ht.0.1;
 }
 
--- the steps of the reading, from the last to the first
+-- the steps of the reading, last to first
 
 abbrev reads_threads : Data → ScheduleSpec → List PartSpec → Result Scenario Refusal
 reads_threads d schedule parts =

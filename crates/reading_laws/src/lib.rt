@@ -1,8 +1,8 @@
-//! The laws of what is read: it keeps every limit, and what is written of it reads back. They are theorems over the
+//! Laws of reading: what is read is within every limit, and what is written reads back. They are theorems over the
 //! definitions alone.
 //!
-//! Each law is the contract of a public function with an empty body: what it promises holds of all its arguments,
-//! whoever made them.
+//! Each law is the contract of a public function with an empty body. It holds for all arguments, no matter who supplies
+//! them.
 #![tactic(auto)]
 
 pub mod limits;

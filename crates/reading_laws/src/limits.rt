@@ -1,4 +1,4 @@
-//! What is read keeps every limit.
+//! What is read is within every limit.
 
 ghost use Rattle.std.specs.Prelude.{List, ℕ, IfOk};
 ghost use Rattle.serde_json.specs.Data.{Data};
@@ -13,32 +13,32 @@ ghost use Rattle.plan_defs.specs.Plans.{IsValidPlan};
 ghost use Rattle.nook_data.specs.declared.campaign.Campaign.{Campaign};
 ghost use Rattle.nook_data.specs.declared.scenario.Fault.{Fault};
 
-/// The image that a JSON value is read as keeps the limits of images.
+/// The image that is read from a JSON value is within the limits of images.
 pub fn images_are_valid()
     ensures { (d : Data) → IfOk (image_of d) IsValidImage }
 {}
 
-/// The image that a text assembles to keeps the limits of images.
+/// The image that a text assembles to is within the limits of images.
 pub fn assembled_images_are_valid()
     ensures { (text : List ℕ) → IfOk (assembled text) IsValidImage }
 {}
 
-/// The scenario that some bytes are read as keeps every limit.
+/// The scenario that is read from some bytes is within every limit.
 pub fn scenarios_are_valid()
     ensures { (bytes : List ℕ) → IfOk (scenario_from bytes) IsValidScenario }
 {}
 
-/// The campaign that some bytes are read as keeps its limits.
+/// The campaign that is read from some bytes is within its limits.
 pub fn campaigns_are_valid()
     ensures { (bytes : List ℕ) → IfOk (campaign_from bytes) IsValidCampaign }
 {}
 
-/// The campaign with members, kinds of fault, a guard and details that some bytes are read as keeps its limits.
+/// The campaign with members, kinds of fault, a guard and details that is read from some bytes is within its limits.
 pub fn plans_are_valid()
     ensures { (bytes : List ℕ) → IfOk (plan_from bytes) IsValidPlan }
 {}
 
-/// The scenario of each member of a valid campaign keeps every limit.
+/// The scenario of each member of a valid campaign is within every limit.
 pub fn members_are_valid()
     ensures { (campaign : Campaign) (fault : Fault) → IsValidCampaign campaign → IsValidFault fault
         → IsValidScenario (member campaign fault) }

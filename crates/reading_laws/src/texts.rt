@@ -6,7 +6,7 @@ ghost use Rattle.nook_data.specs.Valid.{IsValidImage};
 ghost use Rattle.nook_data.specs.declared.scenario.Image.{Image};
 ghost use Rattle.std.specs.Prelude.{Ok, ◌≡◌};
 
-/// The JSON text that is written for a valid image, with its line feed, is read as that image.
+/// The JSON text written for a valid image, with its line feed, is read as that image.
 pub fn image_text_comes_back()
     ensures { (image : Image) → IsValidImage image → image_from (image_text image) ≡ Ok image }
 {}

@@ -1,4 +1,4 @@
--- Stop goes over the open calls from the first to the last.
+-- Stop processes the open calls from the first to the last.
 use Rattle.std.proofs.Common.{◌≡◌, ℕ, zero, suc, ◌+◌, ◌≤◌, Option, Some, None, List, [], ◌∷◌, ◌++◌, length, drop, slice_get, refl, sym, ap, ◌∙◌, append_assoc, length-append, arith}
 use Rattle.nook_data.specs.declared.calls.Answer.{Answer}
 use Rattle.nook_data.specs.declared.calls.Answer.TheVariants as answer
@@ -13,7 +13,7 @@ use Rattle.nook_data.specs.Frames.{front_of}
 use Rattle.shadow_proxy.specs.Front.{front_for}
 use Rattle.shadow_proxy.specs.Table.{queue_of}
 
--- the front decides what the queue decides
+-- the first frame decides what the queue decides
 
 front_decides : (queue : List (List ℕ)) → frame_or_empty (queue_of (front_of queue)) ≡ frame_or_empty queue
 front_decides [] = refl
@@ -36,7 +36,7 @@ pub answered_by_front : (o : Op) (thread : ℕ) (config : List ℕ) (holder : Op
     → front ≡ front_for o queue → a ≡ shadow_answer o thread config holder s (queue_of front) → a ≡ shadow_answer o thread config holder s queue
 answered_by_front o thread config holder s queue front a e h = h ∙ (ap (λ z. shadow_answer o thread config holder s (queue_of z)) e ∙ same_answer o thread config holder s queue)
 
--- the call at a place, and the calls behind it
+-- the call at an index, and the calls after it
 
 split_at : (xs : List CallEntry) (i n : ℕ) (x : CallEntry) → slice_get xs i ≡ Some x → n ≡ suc i → drop i xs ≡ x ∷ drop n xs
 split_at [] i n x e k = let h : None ≡ Some x = e in absurd (cc)

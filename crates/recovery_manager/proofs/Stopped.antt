@@ -1,4 +1,4 @@
--- Behind Stop the calls without an answer are those that the shadow's table holds.
+-- After Stop the calls without an answer are those that the shadow's table holds.
 use Rattle.std.proofs.Common.{◌≡◌, ℕ, ◌<◌, ◌≤◌, cond, is_none, Option, Some, None, List, [], ◌∷◌, filter, map, refl, ap, ◌∙◌, arith}
 use Rattle.std.proofs.lemmas.Bool.{eq-eqb, ne_eqb}
 use Rattle.nook_data.specs.declared.calls.Answer.{Answer}
@@ -13,7 +13,7 @@ use Rattle.nook_data.specs.Answers.{answer_among}
 use Rattle.part_defs.specs.State.{CallLog}
 use Rattle.shadow_log.specs.Stopped.{after_answers, is_unanswered}
 
--- the table holds an operation, whoever asks and whatever is known
+-- the table holds an operation regardless of who asks and what is known
 held_alike : (o : Op) (thread : ℕ) (config : List ℕ) (holder : Option ℕ) (queue : List (List ℕ))
     → is_none (shadow_answer o thread config holder stage.Stop queue) ≡ is_held o
 unfolding shadow_answer
@@ -27,13 +27,13 @@ held_alike op.Close thread config holder queue = refl
 held_alike (op.Get key) thread config holder queue = refl
 held_alike (op.Set key value) thread config holder queue = refl
 
--- an answer to another call tells nothing of this one
+-- an answer to another call does not affect this one
 other_answer : (n call : ℕ) (a : Option Answer) (rest : List (ℕ × Answer)) → (call ≡ n → ⊥)
     → answer_among n (with_answer call a rest) ≡ answer_among n rest
 other_answer n call None rest other = refl
 other_answer n call (Some a) rest other = rw (ne_eqb call n other) refl
 
--- no answer to a number up to those of the calls
+-- there is no answer to a number below those of the calls
 none_up_to : (n low count : ℕ) (xs : List CallEntry) (config : List ℕ) (holder : Option ℕ) (queue : List (List ℕ)) → IsNumbered low count xs
     → n ≤ low → answer_among n (stop_answers xs config holder queue) ≡ None
 none_up_to n low count [] config holder queue i l = refl

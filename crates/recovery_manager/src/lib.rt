@@ -1,4 +1,4 @@
-//! The stages of a recovery: which follows which, and Stop, at which open calls are answered or held.
+//! The stages of a recovery: their order, and Stop, in which open calls are answered or held.
 #![tactic(auto)]
 
 mod stages;

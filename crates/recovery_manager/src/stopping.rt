@@ -1,4 +1,4 @@
-//! The stage Stop: open calls are answered, or held for the driver that comes.
+//! The stage Stop: open calls are answered, or held for the next driver.
 
 ghost use Rattle.std.specs.Prelude.{◌≡◌, ◌+◌, ◌++◌, [], ◌<◌, ◌≤◌, length, vec_len, vec_capacity, IfOk, OnOk, OnErr};
 ghost use Rattle.part_defs.specs.Log.{gone_answers, held_by_shadow, no_call_open, stop_answers, stop_queue};
@@ -13,9 +13,9 @@ use shadow_log::ShadowLog;
 use shadow_proxy::{Proxy, front_for, proxy};
 use std::alloc::Global;
 
-/// Where the failures are at most the limit, each open call is answered or held by the shadow's table, in the
-/// order of their numbers; the frames that it answers leave the queue, and the calls that stay open are Held.
-/// Past the limit each open call is answered Gone. It takes its memory first: after `NoMemory` the log and the
+/// If the failures do not exceed the limit, each open call is answered or held by the shadow's table, in the
+/// order of their numbers; the frames used in answers leave the queue, and the calls that stay open are Held.
+/// Past the limit each open call is answered Gone. It allocates its memory first: after `NoMemory` the log and the
 /// queue are unchanged.
 pub fn stop<Q: RxFront>(
     alloc: Global,
@@ -30,7 +30,8 @@ pub fn stop<Q: RxFront>(
     ensures frames { failures ≤ limit → OnOk result (Q.frames queue.new
         ≡ stop_queue log.old.pending (Q.frames queue.old)) }
     ensures closed { limit < failures → OnOk result (log.new ≡ no_call_open log.old) }
-    ensures gone { limit < failures → IfOk result (λ answers. answers ≡ gone_answers failures log.old.pending) }
+    ensures gone { limit < failures
+        → IfOk result (λ answers. answers ≡ gone_answers failures log.old.pending) }
     ensures kept { limit < failures → queue.new ≡ queue.old }
     ensures log { OnErr result (log.new ≡ log.old) }
     ensures queue { OnErr result (queue.new ≡ queue.old) }
@@ -47,14 +48,15 @@ pub fn stop<Q: RxFront>(
     }
 }
 
-/// What the shadow answers of the open calls, in the order of their numbers.
+/// The shadow's answers to the open calls, in the order of their numbers.
 fn shadow_answers<Q: RxFront>(
     log: &ShadowLog,
     queue: &mut Q,
     room: Room<(u32, Answer)>,
 ) -> CallAnswers
     requires { length log.now.pending ≤ room }
-    ensures answers { result ≡ stop_answers log.now.pending log.now.config log.now.holder (Q.frames queue.old) }
+    ensures answers { result
+        ≡ stop_answers log.now.pending log.now.config log.now.holder (Q.frames queue.old) }
     ensures frames { Q.frames queue.new ≡ stop_queue log.now.pending (Q.frames queue.old) }
 {
     let mut answers = room.into_vec();
@@ -67,10 +69,11 @@ fn shadow_answers<Q: RxFront>(
     CallAnswers::from_vec(answers)
 }
 
-/// A call's answer, where it has one, goes behind the others. There is room for it.
+/// Adds a call's answer, if it has one, after the others. There is room for it.
 fn add_answer(answers: &mut Vec<(u32, Answer)>, call: u32, decision: Proxy)
     requires { vec_len answers.old < vec_capacity answers.old }
-    ensures items { answers.new.items ≡ answers.old.items ++ with_answer call (answer_of decision) [] }
+    ensures items { answers.new.items ≡ answers.old.items
+        ++ with_answer call (answer_of decision) [] }
     ensures room { vec_capacity answers.old ≤ vec_capacity answers.new }
 {
     if let Proxy::Answer(answer) = decision {

@@ -10,7 +10,7 @@ use Rattle.nook_data.specs.declared.steps.Event.TheVariants as event
 use Rattle.nook_data.specs.declared.steps.FailCause.TheVariants as cause
 use Rattle.nook_data.specs.declared.steps.Stage.TheVariants as stages
 
--- The text of one line of a report for each event.
+-- The text of an event: one line of a report.
 
 -- ---- pieces
 
@@ -78,7 +78,7 @@ answer_text answered.BadClass = codes "bad_class"
 answer_text (answered.IoError block) = with_number (codes "io_error ") block
 answer_text (answered.Gone failures) = with_number (codes "gone ") failures
 
--- why a burst was trapped
+-- why a burst ended with a trap
 abbrev pub trap_text : TrapCause → List ℕ
 trap_text trap.BadOpcode = codes "bad_opcode"
 trap_text trap.BadFetch = codes "bad_fetch"
@@ -108,7 +108,7 @@ act_text (act.Popped frame) = with_list (codes "popped ") frame
 act_text (act.Played word rate volume) = with_number (codes "played ") word ++ (spaced rate ++ spaced volume)
 act_text (act.Register key value) = with_number (codes "register ") key ++ spaced value
 
--- the result of a kernel call, where it was served, and the words that it moved, where there are some
+-- the result of a kernel call if it was served, and the words that it moved if there are any
 abbrev pub result_text : Option ℕ → List ℕ → List ℕ
 result_text None moved = []
 result_text (Some result) moved = with_number (codes " = ") result
@@ -122,7 +122,7 @@ end_text (ends.Reply status) = with_number (codes "reply ") status
 end_text ends.Pause = codes "pause"
 end_text ends.Trap = codes "trap"
 
--- what a Collect took back; of a buffer also whether it might be written
+-- what a Collect released; for a buffer, also whether the driver could write it
 abbrev pub released_text : Entry → List ℕ
 released_text (entry.Heap start len) = with_number (codes " heap ") start ++ spaced len
 released_text (entry.Borrow object start) = with_number (codes " borrow ") object ++ spaced start
@@ -130,14 +130,14 @@ released_text (entry.Buffer context writable) =
     with_number (codes " buffer ") context ++ (if writable then codes " write" else codes " read")
 released_text (entry.Registration live) = []
 
--- ---- what may stand at the end of a line
+-- ---- optional ends of a line
 
--- an answer at the end of a line, where one is given
+-- an answer at the end of a line, if there is one
 abbrev pub answer_tail : Option Answer → List ℕ
 answer_tail None = []
 answer_tail (Some a) = codes " -> " ++ answer_text a
 
--- a failure at the end of a line, where one is carried
+-- a failure at the end of a line, if there is one
 abbrev pub cause_tail : Option FailCause → List ℕ
 cause_tail None = []
 cause_tail (Some c) = codes " ! " ++ cause_text c
@@ -169,9 +169,9 @@ event_text (event.Arrive frame kept) =
 
 -- the line of an event with its number
 unfoldable pub event_line : ℕ → Event → List ℕ
-event_line place e = decimal place ++ (codes " " ++ (event_text e ++ line_feed))
+event_line position e = decimal position ++ (codes " " ++ (event_text e ++ line_feed))
 
--- the lines of events, the first of them number `place`
+-- the lines of events; the first event has number `place`
 unfoldable pub event_lines : ℕ → List Event → List ℕ
-event_lines place [] = []
-event_lines place (e ∷ events) = event_line place e ++ event_lines (suc place) events
+event_lines position [] = []
+event_lines position (e ∷ events) = event_line position e ++ event_lines (suc position) events

@@ -18,19 +18,19 @@ use Rattle.nook_data.specs.declared.machine.Act.TheVariants as act
 use Rattle.nook_data.specs.declared.steps.Event.TheVariants as event
 use Rattle.run_defs.specs.Simulation.{events_count}
 
--- The text of a report: the parts in order, then the threads, the taps and the status.
+-- The text of a report: the parts in order, followed by the threads, the taps and the status.
 
 -- ---- a part's first line
 
 -- part P NAME CLASS limit L
 abbrev pub part_line : ℕ → PartSpec → List ℕ
-part_line place s =
-    with_number (codes "part ") place ++ (codes " " ++ (s.name ++ (codes " " ++ (class_text s.class
+part_line number s =
+    with_number (codes "part ") number ++ (codes " " ++ (s.name ++ (codes " " ++ (class_text s.class
     ++ (with_number (codes " limit ") s.limit ++ line_feed)))))
 
--- ---- lines of what a journal left
+-- ---- lines of the final state after a journal
 
--- so many objects from one on, each where it differs from what it held at first
+-- this many objects from one on, each only if it differs from its initial words
 abbrev pub object_lines : ℕ → ℕ → List ℕ → List ℕ
 object_lines object zero memory = []
 object_lines object (suc more) memory = let words = object_words object memory in
@@ -38,7 +38,7 @@ object_lines object (suc more) memory = let words = object_words object memory i
     else with_number (codes "object ") object ++ (with_list (codes " ") words ++ line_feed))
     ++ object_lines (suc object) more memory
 
--- the blocks of a medium, the first of them number `block`, each where it has another word than 0
+-- the blocks of a medium, the first of them number `block`, each only if it has a word other than 0
 abbrev pub block_lines : ℕ → List (List ℕ) → List ℕ
 block_lines block [] = []
 block_lines block (words ∷ medium) =
@@ -62,13 +62,13 @@ played_line (act.Played word rate volume) =
     with_number (codes "played ") word ++ (spaced rate ++ (spaced volume ++ line_feed))
 played_line a = []
 
--- what the device was left with or gave
+-- the medium that was left, or the frames or samples that were output
 abbrev pub device_lines : Class → List Event → PartState → List ℕ
 device_lines class.Block events p = block_lines 0 (medium_of p.domain.device)
 device_lines class.Net events p = flat_map wire_line (journal_acts events)
 device_lines class.Sound events p = flat_map played_line (journal_acts events)
 
--- the numbers of losses that are told of a class
+-- the losses that are reported for a class
 abbrev pub losses_lines : Class → Losses → List ℕ
 losses_lines class.Block n = []
 losses_lines class.Net n =
@@ -87,8 +87,8 @@ contract_line None = codes "contract kept" ++ line_feed
 contract_line (Some b) =
     with_number (codes "contract broken event ") b.event ++ (with_number (codes " clause ") b.clause ++ line_feed)
 
--- the lines after the events of a part, by the journal's numbers, its verdict and the state that it ends in: the
--- objects, what the device was left with or gave, the record, the losses, the failures and the verdict
+-- the lines after the events of a part, given the journal's losses, its verdict and the final state: the
+-- objects, the medium or output of the device, the record, the losses, the failures and the verdict
 abbrev pub final_lines : Class → List Event → Losses → Option Break → PartState → List ℕ
 final_lines c events n verdict p =
     object_lines 1 12 p.domain.memory ++ (device_lines c events p
@@ -97,44 +97,44 @@ final_lines c events n verdict p =
 
 -- a part's lines
 unfoldable pub part_text : ℕ → PartSpec → List Event → List ℕ
-part_text place s events =
-    part_line place s ++ (event_lines 1 events
+part_text number s events =
+    part_line number s ++ (event_lines 1 events
     ++ final_lines s.class events (losses events) (first_break s.class s.blocks events) (state_of s events))
 
 -- the parts, the first of them number `place`, each with its journal; there is a journal for each part
 unfoldable pub parts_text : ℕ → List PartSpec → List (List Event) → List ℕ
-parts_text place [] journals = []
-parts_text place (s ∷ specs) [] = []
-parts_text place (s ∷ specs) (events ∷ journals) = part_text place s events ++ parts_text (suc place) specs journals
+parts_text number [] journals = []
+parts_text number (s ∷ specs) [] = []
+parts_text number (s ∷ specs) (events ∷ journals) = part_text number s events ++ parts_text (suc number) specs journals
 
 -- ---- threads, taps, the status
 
 -- a thread's first line
 abbrev pub thread_line : ℕ → ThreadSpec → List ℕ
-thread_line place t = with_number (codes "thread ") place ++ (codes " " ++ (t.name ++ line_feed))
+thread_line number t = with_number (codes "thread ") number ++ (codes " " ++ (t.name ++ line_feed))
 
 -- the answers of a thread, the first of them number `place`: K pP ANSWER
 abbrev pub answer_lines : ℕ → List (ℕ × Answer) → List ℕ
-answer_lines place [] = []
-answer_lines place (a ∷ answers) =
-    decimal place
+answer_lines number [] = []
+answer_lines number (a ∷ answers) =
+    decimal number
     ++ (with_number (codes " p") a.0
-    ++ (codes " " ++ (answer_text a.1 ++ (line_feed ++ answer_lines (suc place) answers))))
+    ++ (codes " " ++ (answer_text a.1 ++ (line_feed ++ answer_lines (suc number) answers))))
 
 -- the threads, the first of them number `place`, each with its answers; there is a list for each thread
 unfoldable pub threads_text : ℕ → List ThreadSpec → List (List (ℕ × Answer)) → List ℕ
-threads_text place [] answers = []
-threads_text place (t ∷ threads) [] = []
-threads_text place (t ∷ threads) (own ∷ answers) =
-    thread_line place t ++ (answer_lines 1 own ++ threads_text (suc place) threads answers)
+threads_text number [] answers = []
+threads_text number (t ∷ threads) [] = []
+threads_text number (t ∷ threads) (own ∷ answers) =
+    thread_line number t ++ (answer_lines 1 own ++ threads_text (suc number) threads answers)
 
--- the listeners, the first of them number `place`, each with its total and whether it was kept
+-- the listeners, the first of them number `place`, each with its total and whether it is still attached
 unfoldable pub taps_text : ℕ → List (ℕ × Bool) → List ℕ
-taps_text place [] = []
-taps_text place (t ∷ taps) =
-    (with_number (codes "tap ") place
+taps_text number [] = []
+taps_text number (t ∷ taps) =
+    (with_number (codes "tap ") number
     ++ (with_number (codes " total ") t.0 ++ ((if t.1 then codes " kept" else codes " dropped") ++ line_feed)))
-    ++ taps_text (suc place) taps
+    ++ taps_text (suc number) taps
 
 -- the last line
 abbrev pub status_line : ℕ → List ℕ
@@ -153,7 +153,7 @@ has_given_up [] journals = false
 has_given_up (s ∷ specs) [] = false
 has_given_up (s ∷ specs) (events ∷ journals) = is_given_up (state_of s events) || has_given_up specs journals
 
--- the status of a run: 7 where a part broke its contract, else 1 where a part was given up, else 0
+-- the status of a run: 7 if a part broke its contract, else 1 if a part was given up, else 0
 abbrev pub status_of : List PartSpec → List (List Event) → ℕ
 status_of specs journals = if has_break specs journals then 7 else if has_given_up specs journals then 1 else 0
 
@@ -163,9 +163,9 @@ report_text scenario journals answers taps status =
     parts_text 0 scenario.parts journals ++ (threads_text 0 scenario.threads answers
     ++ (taps_text 0 taps ++ status_line status))
 
--- ---- the line that sums a generated scenario up
+-- ---- the summary line of a generated scenario
 
--- how many failures the events carry; there is a journal for each part
+-- the number of failures in the events; there is a journal for each part
 unfoldable pub failures_count : List PartSpec → List (List Event) → ℕ
 failures_count [] journals = 0
 failures_count (s ∷ specs) [] = 0
@@ -177,7 +177,7 @@ gen_line n events failures status =
     codes "gen " ++ decimal n ++ codes " events " ++ decimal events ++ codes " failures " ++ decimal failures
     ++ codes " status " ++ decimal status ++ line_feed
 
--- that line of the journals of some parts
+-- the summary line of the journals of some parts
 unfoldable pub summary_line : ℕ → List PartSpec → List (List Event) → List ℕ
 summary_line n specs journals =
     gen_line n (events_count journals) (failures_count specs journals) (status_of specs journals)

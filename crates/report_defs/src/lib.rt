@@ -1,2 +1,2 @@
-//! Definitions of what is written: the report of a run, and the table of a campaign.
+//! Definitions of the printed texts: the report of a run, and the table of a campaign.
 #![tactic(auto)]

@@ -1,5 +1,4 @@
 pub mod Answers
-pub mod Statuses
 pub mod Whole
 pub mod Writing
 pub mod Mirrored

@@ -7,7 +7,7 @@ use Rattle.nook_data.specs.declared.scenario.Scenario.{Scenario}
 use Rattle.nook_data.specs.declared.scenario.ThreadSpec.{ThreadSpec}
 use Rattle.report_defs.specs.ReportLines.{line_feed, with_list, with_number}
 use Rattle.report_defs.specs.ReportText.{parts_text, status_line, taps_text, thread_line}
-use Rattle.report_text.specs.declared.whole_report.Report.{Report}
+use Rattle.run_results.specs.declared.report.Report.{Report}
 use Rattle.report_text.specs.Whole.{parts_rows}
 use Rattle.report_text.specs.Writing.{each_text}
 
@@ -19,11 +19,11 @@ mirror_answer_text mirrored.BadRange = codes "bad_range"
 mirror_answer_text mirrored.BadLength = codes "bad_length"
 mirror_answer_text mirrored.BothLost = codes "both_lost"
 
--- an answer of the mirror, which stands for its first part: K p0 ANSWER
+-- an answer of the mirror, printed as one of its first part: K p0 ANSWER
 abbrev pub mirror_answer_line : ℕ → MirrorAnswer → List ℕ
-mirror_answer_line place a = decimal place ++ (codes " p0 " ++ (mirror_answer_text a ++ line_feed))
+mirror_answer_line number a = decimal number ++ (codes " p0 " ++ (mirror_answer_text a ++ line_feed))
 
--- the thread, where there is one, with the mirror's answers
+-- the thread, if there is one, with the mirror's answers
 unfoldable pub mirror_threads_text : List ThreadSpec → List MirrorAnswer → List ℕ
 mirror_threads_text [] answers = []
 mirror_threads_text (t ∷ threads) answers = thread_line 0 t ++ each_text mirror_answer_line 1 answers
@@ -34,7 +34,7 @@ mirror_report_text scenario journals answers taps status =
     parts_text 0 scenario.parts journals ++ (mirror_threads_text scenario.threads answers
     ++ (taps_text 0 taps ++ status_line status))
 
--- the same by rows of a report
+-- the same text by the rows of a report
 abbrev pub mirror_report_rows : Scenario → Report → List MirrorAnswer → ℕ → List ℕ
 mirror_report_rows scenario r answers status =
     parts_rows 0 scenario.parts r.run.journals r.parts r.ends

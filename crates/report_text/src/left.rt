@@ -1,4 +1,4 @@
-//! What a run left, as text: two runs left the same if these texts are the same.
+//! The final state of a run as text: two runs end alike if these texts are the same.
 
 ghost use Rattle.std.specs.Prelude.{◌≡◌, ◌++◌, OnOk};
 ghost use Rattle.report_text.specs.Answers.{answer_line};
@@ -6,7 +6,6 @@ ghost use Rattle.report_text.specs.Whole.{device_rows, event_text, left_rows};
 ghost use Rattle.report_text.specs.Writing.{each_text};
 
 use crate::line::Line;
-use crate::whole_report::PartEnd;
 use crate::whole_text::{Kind, push_acts, push_blocks, push_config, push_losses, push_objects};
 use crate::write::Lined;
 use nook_data::calls::Answer;
@@ -15,9 +14,10 @@ use nook_data::lists::Words;
 use nook_data::memory::NoMemory;
 use nook_data::steps::Event;
 use nook_data::verdicts::Losses;
+use run_results::PartEnd;
 
-/// Adds the lines of what a part is left with: its kernel objects, what its device was left with or gave, its
-/// configuration and its losses.
+/// Adds the lines of a part's final state: its kernel objects, its device's final contents or what the device produced,
+/// its configuration and its losses.
 pub fn push_left(
     line: &mut Line,
     class: Class,
@@ -33,7 +33,7 @@ pub fn push_left(
     push_losses(line, class, losses)
 }
 
-/// Adds the lines of what a device was left with or gave.
+/// Adds the lines of a device's final contents, or of what it produced.
 fn push_device(
     line: &mut Line,
     class: Class,
@@ -63,10 +63,10 @@ fn push_all_acts(line: &mut Line, kind: Kind, events: &[Event]) -> Result<(), No
 pub fn push_answers(line: &mut Line, answers: &[(u32, Answer)]) -> Result<(), NoMemory>
     ensures { OnOk result (line.new ≡ line.old ++ each_text answer_line 1 answers.now) }
 {
-    let mut place = 1_u64;
+    let mut number = 1_u64;
     for answer in answers {
-        answer.push_line(place, line)?;
-        place += 1;
+        answer.push_line(number, line)?;
+        number += 1;
     }
     Ok(())
 }

@@ -1,23 +1,17 @@
-//! The report of a run: its lines, what it sums up, and its writing into a sink.
+//! The report of a run: its lines, its summary, and how it is written into a sink.
 #![tactic(auto)]
 
 mod left;
 mod line;
 mod pieces;
-mod report;
-mod status;
 mod summary;
-mod whole_report;
 mod whole_text;
 mod write;
 
 pub use left::{push_answers, push_left};
 pub use line::Line;
 pub use pieces::{push_acts_tail, push_cause, push_number, push_outcome};
-pub use report::{Journals, Run};
-pub use status::ReportStatus;
 pub use summary::{Summary, write_summary};
-pub use whole_report::{PartEnd, PartEnds, PartReport, PartReports, Report, report_of};
 pub use whole_text::{write_final, write_mirror_report, write_report, write_taps};
 pub use write::{
     WriteStop, event_line, write_part_line, write_status_line, write_text, write_threads,

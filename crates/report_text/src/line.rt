@@ -1,4 +1,4 @@
-//! A line of text as it is put together.
+//! A line of text, built piece by piece.
 
 ghost use Rattle.std.specs.Prelude.{◌≡◌, [], ◌∷◌, ◌++◌, OnErr, OnOk, decimal, string_bytes};
 
@@ -8,7 +8,7 @@ use nook_data::memory::NoMemory;
 use std::alloc::Global;
 use std::marker::Model;
 
-/// A line without its end. Contracts see its bytes.
+/// A line without its line feed. Contracts see its bytes.
 #[derive(Drop)]
 pub struct Line {
     text: String,
@@ -23,7 +23,7 @@ impl Model for Line {
 }
 
 impl Line {
-    /// The empty line. It takes no memory.
+    /// The empty line. It allocates nothing.
     pub fn new(alloc: Global) -> Line
         ensures { result ≡ [] }
     {
@@ -32,7 +32,7 @@ impl Line {
         }
     }
 
-    /// Adds a text. After `NoMemory` the line is as it was.
+    /// Appends a text. `NoMemory` leaves the line as it was.
     pub fn push(&mut self, text: &str) -> Result<(), NoMemory>
         ensures ok { OnOk result (self.new ≡ self.old ++ text.now) }
         ensures err { OnErr result (self.new ≡ self.old) }
@@ -41,7 +41,7 @@ impl Line {
         Ok(())
     }
 
-    /// Adds a number in decimal. After `NoMemory` the line is as it was.
+    /// Appends a number in decimal. `NoMemory` leaves the line as it was.
     pub fn number(&mut self, n: u64) -> Result<(), NoMemory>
         ensures ok { OnOk result (self.new ≡ self.old ++ decimal n) }
         ensures err { OnErr result (self.new ≡ self.old) }
@@ -50,14 +50,14 @@ impl Line {
         self.push(digits.format(n))
     }
 
-    /// Empties the line. The memory that it took stays with it.
+    /// Empties the line. It keeps its memory.
     pub fn clear(&mut self)
         ensures { self.new ≡ [] }
     {
         self.text.clear();
     }
 
-    /// The line's bytes as a list. It takes no memory.
+    /// The line's bytes as a list. It allocates nothing.
     pub fn into_words(self) -> Words8
         ensures { result ≡ self }
     {

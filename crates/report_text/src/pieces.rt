@@ -1,4 +1,4 @@
-//! The pieces of the lines: each call adds the text of one thing to a line, which its maker drops after `NoMemory`.
+//! The pieces of lines: each call appends one thing's text to a line. The caller drops the line after `NoMemory`.
 
 ghost use Rattle.std.specs.Prelude.{◌≡◌, [], ◌∷◌, ◌++◌, Option, OnOk};
 ghost use Rattle.nook_data.specs.ClassNames.{class_text};
@@ -50,7 +50,7 @@ fn push_words(line: &mut Line, words: &[u32]) -> Result<(), NoMemory>
     }
 }
 
-/// Words, each behind a comma.
+/// Words, each after a comma.
 fn push_more_words(line: &mut Line, words: &[u32]) -> Result<(), NoMemory>
     ensures { OnOk result (line.new ≡ line.old ++ comma_words words.now) }
 {
@@ -246,7 +246,7 @@ pub fn push_end(line: &mut Line, end: &End) -> Result<(), NoMemory>
     }
 }
 
-/// The result of a kernel call, where it was served.
+/// The result of a kernel call, if it was served.
 fn push_result(line: &mut Line, answer: Option<u32>, moved: &Words) -> Result<(), NoMemory>
     ensures { OnOk result (line.new ≡ line.old ++ result_text answer moved.now) }
 {
@@ -257,7 +257,7 @@ fn push_result(line: &mut Line, answer: Option<u32>, moved: &Words) -> Result<()
     push_moved(line, moved)
 }
 
-/// The words that a kernel call moved, where there are some.
+/// The words that a kernel call moved, if there are any.
 fn push_moved(line: &mut Line, moved: &Words) -> Result<(), NoMemory>
     ensures { OnOk result (line.new ≡ line.old ++ moved_text moved.now) }
 {
@@ -289,7 +289,7 @@ fn right(writable: bool) -> &'static str
     if writable { " write" } else { " read" }
 }
 
-/// An answer behind its arrow, where there is one.
+/// An answer after its arrow, if there is one.
 fn push_answer_tail(line: &mut Line, answer: &Option<Answer>) -> Result<(), NoMemory>
     ensures { OnOk result (line.new ≡ line.old ++ answer_tail answer.now) }
 {
@@ -300,7 +300,7 @@ fn push_answer_tail(line: &mut Line, answer: &Option<Answer>) -> Result<(), NoMe
     push_answer(line, answer)
 }
 
-/// A cause behind its mark, where there is one.
+/// A cause after its mark, if there is one.
 fn push_cause_tail(line: &mut Line, cause: Option<FailCause>) -> Result<(), NoMemory>
     ensures { OnOk result (line.new ≡ line.old ++ cause_tail cause) }
 {
@@ -311,7 +311,7 @@ fn push_cause_tail(line: &mut Line, cause: Option<FailCause>) -> Result<(), NoMe
     push_cause(line, cause)
 }
 
-/// Acts, each behind a bar.
+/// Acts, each after a bar.
 pub fn push_acts_tail(line: &mut Line, acts: &[Act]) -> Result<(), NoMemory>
     ensures { OnOk result (line.new ≡ line.old ++ acts_tail acts.now) }
 {
@@ -322,7 +322,7 @@ pub fn push_acts_tail(line: &mut Line, acts: &[Act]) -> Result<(), NoMemory>
     Ok(())
 }
 
-/// Calls with their answers, each behind an arrow.
+/// Calls with their answers, each after an arrow.
 fn push_answers_tail(line: &mut Line, answers: &[(u32, Answer)]) -> Result<(), NoMemory>
     ensures { OnOk result (line.new ≡ line.old ++ answers_tail answers.now) }
 {
@@ -406,7 +406,7 @@ pub fn push_event(line: &mut Line, event: &Event) -> Result<(), NoMemory>
     }
 }
 
-/// What came of a burst: its end, its acts, its answer and its failure.
+/// The result of a burst: its end, its acts, its answer and its failure.
 pub fn push_outcome(
     line: &mut Line,
     end: &End,
@@ -415,7 +415,8 @@ pub fn push_outcome(
     failure: Option<FailCause>,
 ) -> Result<(), NoMemory>
     ensures { OnOk result (line.new ≡ line.old
-        ++ (end_text end.now ++ (acts_tail acts.now ++ (answer_tail answer.now ++ cause_tail failure)))) }
+        ++ (end_text end.now
+        ++ (acts_tail acts.now ++ (answer_tail answer.now ++ cause_tail failure)))) }
 {
     push_end(line, end)?;
     push_acts_tail(line, acts.as_slice())?;
@@ -423,7 +424,7 @@ pub fn push_outcome(
     push_cause_tail(line, failure)
 }
 
-/// Whether a frame was kept.
+/// Whether a frame was delivered.
 fn fate(kept: bool) -> &'static str
     ensures { result.now ≡ kept_text kept }
 {

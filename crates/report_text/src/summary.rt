@@ -2,18 +2,19 @@
 
 ghost use Rattle.report_defs.specs.ReportText.{gen_line};
 ghost use Rattle.std.specs.Prelude.{◌≡◌, ◌++◌, OnOk};
-ghost use Rattle.report_text.specs.Statuses.{status_number};
+ghost use Rattle.nook_io.specs.Changes.{change};
+ghost use Rattle.run_results.specs.Statuses.{status_number};
 ghost use Rattle.report_text.specs.Writing.{Wrote};
 
 use crate::line::Line;
-use crate::status::ReportStatus;
 use crate::write::WriteStop;
 use nook_data::memory::NoMemory;
 use nook_io::outside::Sink;
 use nook_io::whole::write_all;
+use run_results::ReportStatus;
 use std::alloc::Global;
 
-/// What the line of a generated scenario has: its number, the events and failures of all its parts, and the status
+/// What the line of a generated scenario reports: its number, the events and failures of all its parts, and the status
 /// that its report would have.
 #[derive(Clone, Copy)]
 pub struct Summary {
@@ -23,14 +24,14 @@ pub struct Summary {
     pub status: ReportStatus,
 }
 
-/// Writes the line of a generated scenario. `Fault` comes only where the sink's count of faults rose; the sink has
-/// then gained a front of the line.
+/// Writes the line of a generated scenario. `Fault` is returned only if the sink counted an I/O error; the sink has
+/// then received a prefix of the line.
 pub fn write_summary<K: Sink>(
     alloc: Global,
     sink: &mut K,
     summary: Summary,
 ) -> Result<(), WriteStop>
-    ensures { Wrote (K.held sink.old) (K.held sink.new) (K.count sink.old) (K.count sink.new) result
+    ensures { Wrote (change K.held K.count sink.old sink.new) result
         (gen_line summary.number summary.events summary.failures (status_number summary.status)) }
 {
     let mut line = Line::new(alloc);

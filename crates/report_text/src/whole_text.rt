@@ -1,4 +1,4 @@
-//! The writing of a whole report into a sink.
+//! Writes a whole report into a sink.
 
 ghost use Rattle.std.specs.Prelude.{◌≡◌, ◌+◌, ◌^◌, ◌<◌, ◌++◌, ℕ, List, OnOk, bytes_eq, flat_map, length, replicate};
 ghost use Rattle.machine_defs.specs.Pages.{opening_object};
@@ -8,15 +8,17 @@ ghost use Rattle.report_defs.specs.ReportText.{report_text, status_line, taps_te
 ghost use Rattle.report_defs.specs.Views.Reporting.{block_line, config_line, failures_line, object_line, tap_line};
 ghost use Rattle.report_defs.specs.Views.Reporting.{tap_text};
 ghost use Rattle.part_defs.specs.State.{PartState};
+ghost use Rattle.nook_io.specs.Changes.{change};
 ghost use Rattle.report_text.specs.Mirrored.{mirror_report_rows, mirror_report_text};
-ghost use Rattle.report_text.specs.Whole.{IsReport, ShowsState, device_rows, ending_rows, event_rows, event_text};
-ghost use Rattle.report_text.specs.Whole.{final_rows, frame_counts, kept_counts, lists_of, lost_counts, part_rows};
+ghost use Rattle.report_text.specs.Whole.{device_rows, ending_rows, event_rows, event_text};
+ghost use Rattle.run_results.specs.Reports.{IsReport, ShowsState};
+ghost use Rattle.report_text.specs.Whole.{final_rows, frame_counts, kept_counts, lost_counts, part_rows};
+ghost use Rattle.run_results.specs.Reports.{lists_of};
 ghost use Rattle.report_text.specs.Whole.{parts_rows, report_rows, sample_counts};
 ghost use Rattle.report_text.specs.Writing.{Wrote, each_text};
 
 use crate::line::Line;
 use crate::pieces::{push_list, push_number};
-use crate::whole_report::{PartEnd, PartReport, Report};
 use crate::write::{
     WriteStop, spill, write_events, write_mirror_threads, write_part_line, write_status_line,
     write_text, write_threads,
@@ -33,9 +35,10 @@ use nook_data::scenario::{PartSpec, Scenario};
 use nook_data::steps::Event;
 use nook_data::verdicts::{Break, Losses};
 use nook_io::outside::Sink;
+use run_results::{PartEnd, PartReport, Report};
 use std::alloc::Global;
 
-/// Which acts of a device are told line by line.
+/// Which acts of a device have a line each.
 #[derive(Clone, Copy)]
 pub enum Kind {
     /// Frames that were sent.
@@ -44,7 +47,7 @@ pub enum Kind {
     Samples,
 }
 
-/// Whether a kernel object is as it was at first: its number and zeros.
+/// Whether a kernel object is as it was initially: its number, then zeros.
 fn is_opening(object: u64, words: &[u32]) -> bool
     ensures { result ≡ bytes_eq words.now (opening_object object) }
 {
@@ -75,7 +78,7 @@ fn is_blank(words: &[u32]) -> bool
     words.len() == BLOCK_WORDS && all_zeros(words)
 }
 
-/// A kernel object, where it differs from what it held at first.
+/// A kernel object, if it differs from its initial contents.
 fn push_object(line: &mut Line, object: u64, words: &Words) -> Result<(), NoMemory>
     ensures { OnOk result (line.new ≡ line.old ++ object_line object words.now) }
 {
@@ -87,7 +90,7 @@ fn push_object(line: &mut Line, object: u64, words: &Words) -> Result<(), NoMemo
     line.push("\n")
 }
 
-/// Kernel objects, the first of them number 1.
+/// Kernel objects; the first has number 1.
 pub fn push_objects(line: &mut Line, objects: &[Words]) -> Result<(), NoMemory>
     ensures { OnOk result (line.new ≡ line.old ++ each_text object_line 1 objects.now) }
 {
@@ -99,7 +102,7 @@ pub fn push_objects(line: &mut Line, objects: &[Words]) -> Result<(), NoMemory>
     Ok(())
 }
 
-/// A block, where it has another word than 0.
+/// A block, if one of its words is not 0.
 fn push_block(line: &mut Line, block: u64, words: &Words) -> Result<(), NoMemory>
     ensures { OnOk result (line.new ≡ line.old ++ block_line block words.now) }
 {
@@ -133,7 +136,7 @@ fn push_frames(line: &mut Line, acts: &[Act]) -> Result<(), NoMemory>
     Ok(())
 }
 
-/// An act, where it sent a frame.
+/// An act, if it sent a frame.
 fn push_frame(line: &mut Line, act: &Act) -> Result<(), NoMemory>
     ensures { OnOk result (line.new ≡ line.old ++ wire_line act.now) }
 {
@@ -156,7 +159,7 @@ fn push_samples(line: &mut Line, acts: &[Act]) -> Result<(), NoMemory>
     Ok(())
 }
 
-/// An act, where it played a sample.
+/// An act, if it played a sample.
 fn push_sample(line: &mut Line, act: &Act) -> Result<(), NoMemory>
     ensures { OnOk result (line.new ≡ line.old ++ played_line act.now) }
 {
@@ -197,7 +200,7 @@ pub fn push_config(line: &mut Line, config: &[u32; 4]) -> Result<(), NoMemory>
     line.push("\n")
 }
 
-/// Words, each behind a space.
+/// Words, each after a space.
 fn push_spaced(line: &mut Line, words: &[u32]) -> Result<(), NoMemory>
     ensures { OnOk result (line.new ≡ line.old ++ flat_map spaced words.now) }
 {
@@ -207,7 +210,7 @@ fn push_spaced(line: &mut Line, words: &[u32]) -> Result<(), NoMemory>
     Ok(())
 }
 
-/// The numbers of losses that are told of a class.
+/// The numbers of losses that are printed for a class.
 pub fn push_losses(line: &mut Line, class: Class, losses: &Losses) -> Result<(), NoMemory>
     ensures { OnOk result (line.new ≡ line.old ++ losses_lines class losses.now) }
 {
@@ -238,7 +241,7 @@ fn push_frame_counts(line: &mut Line, losses: &Losses) -> Result<(), NoMemory>
     push_kept_counts(line, losses)
 }
 
-/// Where a net part's frames are, and then the others.
+/// The numbers of a net part's frames in the queue, the ring and the driver, then those of lost frames.
 fn push_kept_counts(line: &mut Line, losses: &Losses) -> Result<(), NoMemory>
     ensures { OnOk result (line.new ≡ line.old ++ kept_counts losses.now) }
 {
@@ -288,30 +291,30 @@ fn push_ending(
     push_verdict(line, summed.first_break)
 }
 
-/// Listeners, the first of them number 0.
+/// Listeners; the first has number 0.
 #[tactic(auto, unfolding(report_defs::specs::ReportText::taps_text))]
 fn push_taps(line: &mut Line, taps: &[(u64, bool)]) -> Result<(), NoMemory>
     ensures { OnOk result (line.new ≡ line.old ++ taps_text 0 taps.now) }
 {
-    let mut place = 0_u64;
+    let mut number = 0_u64;
     for tap in taps {
-        push_tap(line, place, tap)?;
-        place += 1;
+        push_tap(line, number, tap)?;
+        number += 1;
     }
     Ok(())
 }
 
-/// A listener's total, and whether it was kept.
-fn push_tap(line: &mut Line, place: u64, tap: &(u64, bool)) -> Result<(), NoMemory>
-    ensures { OnOk result (line.new ≡ line.old ++ tap_line place tap.now) }
+/// A listener's total, and whether it is still attached.
+fn push_tap(line: &mut Line, number: u64, tap: &(u64, bool)) -> Result<(), NoMemory>
+    ensures { OnOk result (line.new ≡ line.old ++ tap_line number tap.now) }
 {
-    push_number(line, "tap ", place)?;
+    push_number(line, "tap ", number)?;
     push_number(line, " total ", tap.0)?;
     line.push(fate(tap.1))?;
     line.push("\n")
 }
 
-/// Whether a listener was kept.
+/// Whether a listener is still attached.
 fn fate(kept: bool) -> &'static str
     ensures { result.now ≡ tap_text kept }
 {
@@ -320,7 +323,7 @@ fn fate(kept: bool) -> &'static str
 
 /// Writes the lines of kernel objects.
 fn write_objects<K: Sink>(alloc: Global, sink: &mut K, objects: &[Words]) -> Result<(), WriteStop>
-    ensures { Wrote (K.held sink.old) (K.held sink.new) (K.count sink.old) (K.count sink.new) result
+    ensures { Wrote (change K.held K.count sink.old sink.new) result
         (each_text object_line 1 objects.now) }
 {
     let mut line = Line::new(alloc);
@@ -330,8 +333,7 @@ fn write_objects<K: Sink>(alloc: Global, sink: &mut K, objects: &[Words]) -> Res
 
 /// Writes the lines of a medium.
 fn write_blocks<K: Sink>(alloc: Global, sink: &mut K, medium: &[Words]) -> Result<(), WriteStop>
-    ensures { Wrote (K.held sink.old) (K.held sink.new) (K.count sink.old) (K.count sink.new) result
-        (block_lines 0 medium.now) }
+    ensures { Wrote (change K.held K.count sink.old sink.new) result (block_lines 0 medium.now) }
 {
     let mut line = Line::new(alloc);
     push_blocks(&mut line, medium)?;
@@ -345,7 +347,7 @@ fn write_acts<K: Sink>(
     kind: Kind,
     events: &[Event],
 ) -> Result<(), WriteStop>
-    ensures { Wrote (K.held sink.old) (K.held sink.new) (K.count sink.old) (K.count sink.new) result
+    ensures { Wrote (change K.held K.count sink.old sink.new) result
         (each_text (event_text kind) 0 events.now) }
 {
     let mut buffer = Line::new(alloc);
@@ -356,7 +358,7 @@ fn write_acts<K: Sink>(
     write_text(sink, &buffer)
 }
 
-/// Writes what the device was left with or gave.
+/// Writes the final contents of a device, or what it produced.
 fn write_device<K: Sink>(
     alloc: Global,
     sink: &mut K,
@@ -364,7 +366,7 @@ fn write_device<K: Sink>(
     events: &[Event],
     medium: &[Words],
 ) -> Result<(), WriteStop>
-    ensures { Wrote (K.held sink.old) (K.held sink.new) (K.count sink.old) (K.count sink.new) result
+    ensures { Wrote (change K.held K.count sink.old sink.new) result
         (device_rows class events.now medium.now) }
 {
     match class {
@@ -382,7 +384,7 @@ fn write_ending<K: Sink>(
     summed: &PartReport,
     end: &PartEnd,
 ) -> Result<(), WriteStop>
-    ensures { Wrote (K.held sink.old) (K.held sink.new) (K.count sink.old) (K.count sink.new) result
+    ensures { Wrote (change K.held K.count sink.old sink.new) result
         (ending_rows class summed.now end.now) }
 {
     let mut line = Line::new(alloc);
@@ -390,7 +392,7 @@ fn write_ending<K: Sink>(
     write_text(sink, &line)
 }
 
-/// Writes the lines behind a part's events. Where the part ends as its journal leads to, they are those of the journal.
+/// Writes the lines after a part's events. If the part ends as its journal says, they are those of the journal.
 pub fn write_final<K: Sink>(
     alloc: Global,
     sink: &mut K,
@@ -399,16 +401,17 @@ pub fn write_final<K: Sink>(
     summed: &PartReport,
     end: &PartEnd,
 ) -> Result<(), WriteStop>
-    ensures rows { Wrote (K.held sink.old) (K.held sink.new) (K.count sink.old) (K.count sink.new) result
+    ensures rows { Wrote (change K.held K.count sink.old sink.new) result
         (final_rows spec.now.class events.now summed.now end.now) }
-    ensures text { (state : PartState) → ShowsState spec.now state end.now → summed.now.failures ≡ end.now.failures
-        → Wrote (K.held sink.old) (K.held sink.new) (K.count sink.old) (K.count sink.new) result
+    ensures text { (state : PartState) → ShowsState spec.now state end.now
+        → summed.now.failures ≡ end.now.failures
+        → Wrote (change K.held K.count sink.old sink.new) result
         (final_lines spec.now.class events.now summed.now.losses summed.now.first_break state) }
 {
     write_final_rows(alloc, sink, spec.class, events, summed, end)
 }
 
-/// Writes the rows behind a part's events.
+/// Writes the rows after a part's events.
 fn write_final_rows<K: Sink>(
     alloc: Global,
     sink: &mut K,
@@ -417,7 +420,7 @@ fn write_final_rows<K: Sink>(
     summed: &PartReport,
     end: &PartEnd,
 ) -> Result<(), WriteStop>
-    ensures { Wrote (K.held sink.old) (K.held sink.new) (K.count sink.old) (K.count sink.new) result
+    ensures { Wrote (change K.held K.count sink.old sink.new) result
         (final_rows class events.now summed.now end.now) }
 {
     write_objects(alloc, sink, end.objects.as_slice())?;
@@ -429,33 +432,33 @@ fn write_final_rows<K: Sink>(
 fn write_part<K: Sink>(
     alloc: Global,
     sink: &mut K,
-    place: u64,
+    number: u64,
     spec: &PartSpec,
     events: &[Event],
     summed: &PartReport,
     end: &PartEnd,
 ) -> Result<(), WriteStop>
-    ensures { Wrote (K.held sink.old) (K.held sink.new) (K.count sink.old) (K.count sink.new) result
-        (part_rows place spec.now events.now summed.now end.now) }
+    ensures { Wrote (change K.held K.count sink.old sink.new) result
+        (part_rows number spec.now events.now summed.now end.now) }
 {
-    write_part_line(alloc, sink, place, spec)?;
+    write_part_line(alloc, sink, number, spec)?;
     write_events(alloc, sink, events)?;
     write_final_rows(alloc, sink, spec.class, events, summed, end)
 }
 
-/// Writes the lines of the parts, the first of them number `place`.
+/// Writes the lines of the parts; the first part has number `place`.
 fn write_parts<K: Sink>(
     alloc: Global,
     sink: &mut K,
-    place: u64,
+    number: u64,
     specs: &[PartSpec],
     journals: &[Journal],
     summed: &[PartReport],
     ends: &[PartEnd],
 ) -> Result<(), WriteStop>
-    requires { place + length specs.now < 2 ^ 64 }
-    ensures { Wrote (K.held sink.old) (K.held sink.new) (K.count sink.old) (K.count sink.new) result
-        (parts_rows place specs.now journals.now summed.now ends.now) }
+    requires { number + length specs.now < 2 ^ 64 }
+    ensures { Wrote (change K.held K.count sink.old sink.new) result
+        (parts_rows number specs.now journals.now summed.now ends.now) }
 {
     let Some((spec, more_specs)) = specs.split_first() else {
         return Ok(());
@@ -469,11 +472,11 @@ fn write_parts<K: Sink>(
     let Some((end, more_ends)) = ends.split_first() else {
         return Ok(());
     };
-    write_part(alloc, sink, place, spec, journal.as_slice(), one, end)?;
+    write_part(alloc, sink, number, spec, journal.as_slice(), one, end)?;
     write_parts(
         alloc,
         sink,
-        place + 1,
+        number + 1,
         more_specs,
         more_journals,
         more_summed,
@@ -481,41 +484,41 @@ fn write_parts<K: Sink>(
     )
 }
 
-/// Writes the listeners, the first of them number 0.
+/// Writes the listeners; the first has number 0.
 pub fn write_taps<K: Sink>(
     alloc: Global,
     sink: &mut K,
     taps: &[(u64, bool)],
 ) -> Result<(), WriteStop>
-    ensures { Wrote (K.held sink.old) (K.held sink.new) (K.count sink.old) (K.count sink.new) result
-        (taps_text 0 taps.now) }
+    ensures { Wrote (change K.held K.count sink.old sink.new) result (taps_text 0 taps.now) }
 {
     let mut line = Line::new(alloc);
     push_taps(&mut line, taps)?;
     write_text(sink, &line)
 }
 
-/// Writes a report. After a failure the sink has gained a front of it; a fault comes only from the sink's own. The
-/// rows are those of the report; of a report of the scenario's run they are the text that its journals, answers and
-/// listeners have.
+/// Writes a report. After a failure the sink has received a prefix of it; `Fault` is returned only after an error of
+/// the sink. The rows are those of the report; if it is the report of the scenario's run, they are the text of its
+/// journals, answers and listeners.
 pub fn write_report<K: Sink>(
     alloc: Global,
     scenario: &Scenario,
     report: &Report,
     sink: &mut K,
 ) -> Result<(), WriteStop>
-    ensures rows { Wrote (K.held sink.old) (K.held sink.new) (K.count sink.old) (K.count sink.new) result
+    ensures rows { Wrote (change K.held K.count sink.old sink.new) result
         (report_rows scenario.now report.now) }
     ensures text { IsReport scenario.now report.now
-        → Wrote (K.held sink.old) (K.held sink.new) (K.count sink.old) (K.count sink.new) result
-        (report_text scenario.now (lists_of report.now.run.journals) report.now.run.answers report.now.run.taps
+        → Wrote (change K.held K.count sink.old sink.new) result
+        (report_text scenario.now
+        (lists_of report.now.run.journals) report.now.run.answers report.now.run.taps
         report.now.status) }
 {
     write_rows(alloc, scenario, report, sink)
 }
 
-/// Writes a report of a mirror: what `write_report` writes, with the mirror's answers in the thread's lines and this
-/// status in the last. After a failure the sink has gained a front of it; a fault comes only from the sink's own.
+/// Writes a report of a mirror: what `write_report` writes, but with the mirror's answers in the thread's lines and
+/// this status at the end. After a failure the sink has received a prefix; `Fault` means an error of the sink.
 pub fn write_mirror_report<K: Sink>(
     alloc: Global,
     scenario: &Scenario,
@@ -524,11 +527,12 @@ pub fn write_mirror_report<K: Sink>(
     status: u32,
     sink: &mut K,
 ) -> Result<(), WriteStop>
-    ensures rows { Wrote (K.held sink.old) (K.held sink.new) (K.count sink.old) (K.count sink.new) result
+    ensures rows { Wrote (change K.held K.count sink.old sink.new) result
         (mirror_report_rows scenario.now report.now answers.now status) }
     ensures text { IsReport scenario.now report.now
-        → Wrote (K.held sink.old) (K.held sink.new) (K.count sink.old) (K.count sink.new) result
-        (mirror_report_text scenario.now (lists_of report.now.run.journals) answers.now report.now.run.taps status) }
+        → Wrote (change K.held K.count sink.old sink.new) result
+        (mirror_report_text scenario.now
+        (lists_of report.now.run.journals) answers.now report.now.run.taps status) }
 {
     write_mirror_rows(alloc, scenario, report, answers.as_slice(), status, sink)
 }
@@ -542,7 +546,7 @@ fn write_mirror_rows<K: Sink>(
     status: u32,
     sink: &mut K,
 ) -> Result<(), WriteStop>
-    ensures { Wrote (K.held sink.old) (K.held sink.new) (K.count sink.old) (K.count sink.new) result
+    ensures { Wrote (change K.held K.count sink.old sink.new) result
         (mirror_report_rows scenario.now report.now answers.now status) }
 {
     write_all_parts(alloc, scenario, report, sink)?;
@@ -558,7 +562,7 @@ fn write_rows<K: Sink>(
     report: &Report,
     sink: &mut K,
 ) -> Result<(), WriteStop>
-    ensures { Wrote (K.held sink.old) (K.held sink.new) (K.count sink.old) (K.count sink.new) result
+    ensures { Wrote (change K.held K.count sink.old sink.new) result
         (report_rows scenario.now report.now) }
 {
     write_all_parts(alloc, scenario, report, sink)?;
@@ -580,7 +584,7 @@ fn write_all_parts<K: Sink>(
     report: &Report,
     sink: &mut K,
 ) -> Result<(), WriteStop>
-    ensures { Wrote (K.held sink.old) (K.held sink.new) (K.count sink.old) (K.count sink.new) result
+    ensures { Wrote (change K.held K.count sink.old sink.new) result
         (parts_rows 0 scenario.now.parts report.now.run.journals report.now.parts report.now.ends) }
 {
     write_parts(

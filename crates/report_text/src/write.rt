@@ -1,8 +1,9 @@
-//! The writing of a report into a sink. Lines are collected in a buffer, and written when it holds many bytes.
+//! Writes a report into a sink. Lines are collected in a buffer, which is written once it holds many bytes.
 
 ghost use Rattle.std.specs.Prelude.{◌≡◌, ◌+◌, ◌^◌, ◌<◌, ◌++◌, ℕ, List, IfOk, OnOk, length};
 ghost use Rattle.report_defs.specs.ReportLines.{event_line, event_lines};
 ghost use Rattle.report_defs.specs.ReportText.{answer_lines, part_line, status_line, thread_line, threads_text};
+ghost use Rattle.nook_io.specs.Changes.{change};
 ghost use Rattle.report_text.specs.Answers.{answer_line};
 ghost use Rattle.report_text.specs.Mirrored.{mirror_answer_line, mirror_threads_text};
 ghost use Rattle.report_text.specs.Writing.{Spilled, Wrote, each_text};
@@ -19,12 +20,12 @@ use nook_io::outside::{Failed, Sink};
 use nook_io::whole::write_all;
 use std::alloc::Global;
 
-/// Why a text was not written whole. The sink has gained a front of it.
+/// Why a text was not written completely. The sink has received a prefix of it.
 #[derive(Clone, Copy, Debug, PartialEq, Eq)]
 pub enum WriteStop {
     /// The sink failed.
     Fault,
-    /// Memory was wanting.
+    /// Memory ran out.
     NoMemory,
 }
 
@@ -43,27 +44,27 @@ impl From<NoMemory> for WriteStop {
 
     ghost from_gives = { λ _ stop. stop ≡ stops.NoMemory };
 
-    fn from(_wanting: NoMemory) -> WriteStop {
+    fn from(_no_memory: NoMemory) -> WriteStop {
         WriteStop::NoMemory
     }
 }
 
-/// What has a line for each of its items.
+/// A type of items that have a line each.
 pub trait Lined {
     // the line of an item with this number
     ghost text: { ℕ → Self → List ℕ };
 
-    /// Adds the item's line, its line feed with it.
-    fn push_line(&self, place: u64, line: &mut Line) -> Result<(), NoMemory>
-        ensures { OnOk result (line.new ≡ line.old ++ text place self.now) };
+    /// Appends the item's line with its line feed.
+    fn push_line(&self, number: u64, line: &mut Line) -> Result<(), NoMemory>
+        ensures { OnOk result (line.new ≡ line.old ++ text number self.now) };
 }
 
 impl Lined for Event {
     ghost text = { event_line };
 
     #[tactic(auto, unfolding(report_defs::specs::ReportLines::event_line))]
-    fn push_line(&self, place: u64, line: &mut Line) -> Result<(), NoMemory> {
-        line.number(place)?;
+    fn push_line(&self, number: u64, line: &mut Line) -> Result<(), NoMemory> {
+        line.number(number)?;
         line.push(" ")?;
         push_event(line, self)?;
         line.push("\n")
@@ -73,8 +74,8 @@ impl Lined for Event {
 impl Lined for (u32, Answer) {
     ghost text = { answer_line };
 
-    fn push_line(&self, place: u64, line: &mut Line) -> Result<(), NoMemory> {
-        line.number(place)?;
+    fn push_line(&self, number: u64, line: &mut Line) -> Result<(), NoMemory> {
+        line.number(number)?;
         push_number(line, " p", u64::from(self.0))?;
         line.push(" ")?;
         push_answer(line, &self.1)?;
@@ -85,31 +86,30 @@ impl Lined for (u32, Answer) {
 impl Lined for MirrorAnswer {
     ghost text = { mirror_answer_line };
 
-    fn push_line(&self, place: u64, line: &mut Line) -> Result<(), NoMemory> {
-        line.number(place)?;
+    fn push_line(&self, number: u64, line: &mut Line) -> Result<(), NoMemory> {
+        line.number(number)?;
         line.push(" p0 ")?;
         push_mirror_answer(line, self)?;
         line.push("\n")
     }
 }
 
-/// The line of an event at a place of its journal, from 1: its number, what happened, a line feed.
-pub fn event_line(alloc: Global, place: u64, event: &Event) -> Result<Words8, NoMemory>
-    ensures { IfOk result (λ line. line ≡ event_line place event.now) }
+/// The line of an event with its number in the journal, from 1: the number, what happened, a line feed.
+pub fn event_line(alloc: Global, number: u64, event: &Event) -> Result<Words8, NoMemory>
+    ensures { IfOk result (λ line. line ≡ event_line number event.now) }
 {
     let mut line = Line::new(alloc);
-    event.push_line(place, &mut line)?;
+    event.push_line(number, &mut line)?;
     Ok(line.into_words())
 }
 
 /// How many bytes a buffer holds before they are written.
 const BUFFER_SIZE: usize = 16_384;
 
-/// Writes a buffer that holds 16,384 bytes or more, and empties it. With fewer it does nothing. A buffer that was not
-/// written whole is left as it was.
+/// Writes a buffer that holds 16,384 bytes or more, and empties it. With fewer bytes it does nothing. A buffer that was
+/// not written completely stays as it was.
 pub fn spill<K: Sink>(sink: &mut K, buffer: &mut Line) -> Result<(), WriteStop>
-    ensures { Spilled (K.held sink.old) (K.held sink.new) (K.count sink.old)
-        (K.count sink.new) result buffer.old buffer.new }
+    ensures { Spilled (change K.held K.count sink.old sink.new) result buffer.old buffer.new }
 {
     if buffer.as_bytes().len() < BUFFER_SIZE {
         return Ok(());
@@ -119,7 +119,7 @@ pub fn spill<K: Sink>(sink: &mut K, buffer: &mut Line) -> Result<(), WriteStop>
     Ok(())
 }
 
-/// Writes the lines of items, the first of them number `first`.
+/// Writes the lines of items; the first item has number `first`.
 fn write_each<K: Sink, T: Lined>(
     alloc: Global,
     sink: &mut K,
@@ -127,22 +127,22 @@ fn write_each<K: Sink, T: Lined>(
     items: &[T],
 ) -> Result<(), WriteStop>
     requires { first + length items.now < 2 ^ 64 }
-    ensures { Wrote (K.held sink.old) (K.held sink.new) (K.count sink.old) (K.count sink.new) result
+    ensures { Wrote (change K.held K.count sink.old sink.new) result
         (each_text T.text first items.now) }
 {
     let mut buffer = Line::new(alloc);
-    let mut place = first;
+    let mut number = first;
     for item in items {
-        item.push_line(place, &mut buffer)?;
+        item.push_line(number, &mut buffer)?;
         spill(sink, &mut buffer)?;
-        place += 1;
+        number += 1;
     }
     write_text(sink, &buffer)
 }
 
 /// Writes a line.
 pub fn write_text<K: Sink>(sink: &mut K, line: &Line) -> Result<(), WriteStop>
-    ensures { Wrote (K.held sink.old) (K.held sink.new) (K.count sink.old) (K.count sink.new) result line.now }
+    ensures { Wrote (change K.held K.count sink.old sink.new) result line.now }
 {
     write_all(sink, line.as_bytes())?;
     Ok(())
@@ -152,21 +152,20 @@ pub fn write_text<K: Sink>(sink: &mut K, line: &Line) -> Result<(), WriteStop>
 pub fn write_part_line<K: Sink>(
     alloc: Global,
     sink: &mut K,
-    place: u64,
+    number: u64,
     spec: &PartSpec,
 ) -> Result<(), WriteStop>
-    ensures { Wrote (K.held sink.old) (K.held sink.new) (K.count sink.old) (K.count sink.new) result
-        (part_line place spec.now) }
+    ensures { Wrote (change K.held K.count sink.old sink.new) result (part_line number spec.now) }
 {
     let mut line = Line::new(alloc);
-    push_part_line(&mut line, place, spec)?;
+    push_part_line(&mut line, number, spec)?;
     write_text(sink, &line)
 }
 
-fn push_part_line(line: &mut Line, place: u64, spec: &PartSpec) -> Result<(), NoMemory>
-    ensures { OnOk result (line.new ≡ line.old ++ part_line place spec.now) }
+fn push_part_line(line: &mut Line, number: u64, spec: &PartSpec) -> Result<(), NoMemory>
+    ensures { OnOk result (line.new ≡ line.old ++ part_line number spec.now) }
 {
-    push_number(line, "part ", place)?;
+    push_number(line, "part ", number)?;
     line.push(" ")?;
     line.push(spec.name.as_str())?;
     line.push(" ")?;
@@ -177,8 +176,7 @@ fn push_part_line(line: &mut Line, place: u64, spec: &PartSpec) -> Result<(), No
 
 /// Writes the lines of a journal's events.
 pub fn write_events<K: Sink>(alloc: Global, sink: &mut K, events: &[Event]) -> Result<(), WriteStop>
-    ensures { Wrote (K.held sink.old) (K.held sink.new) (K.count sink.old) (K.count sink.new) result
-        (event_lines 1 events.now) }
+    ensures { Wrote (change K.held K.count sink.old sink.new) result (event_lines 1 events.now) }
 {
     write_each(alloc, sink, 1, events)
 }
@@ -187,21 +185,21 @@ pub fn write_events<K: Sink>(alloc: Global, sink: &mut K, events: &[Event]) -> R
 fn write_thread_line<K: Sink>(
     alloc: Global,
     sink: &mut K,
-    place: u64,
+    number: u64,
     thread: &ThreadSpec,
 ) -> Result<(), WriteStop>
-    ensures { Wrote (K.held sink.old) (K.held sink.new) (K.count sink.old) (K.count sink.new) result
-        (thread_line place thread.now) }
+    ensures { Wrote (change K.held K.count sink.old sink.new) result
+        (thread_line number thread.now) }
 {
     let mut line = Line::new(alloc);
-    push_thread_line(&mut line, place, thread)?;
+    push_thread_line(&mut line, number, thread)?;
     write_text(sink, &line)
 }
 
-fn push_thread_line(line: &mut Line, place: u64, thread: &ThreadSpec) -> Result<(), NoMemory>
-    ensures { OnOk result (line.new ≡ line.old ++ thread_line place thread.now) }
+fn push_thread_line(line: &mut Line, number: u64, thread: &ThreadSpec) -> Result<(), NoMemory>
+    ensures { OnOk result (line.new ≡ line.old ++ thread_line number thread.now) }
 {
-    push_number(line, "thread ", place)?;
+    push_number(line, "thread ", number)?;
     line.push(" ")?;
     line.push(thread.name.as_str())?;
     line.push("\n")
@@ -213,24 +211,23 @@ fn write_answers<K: Sink>(
     sink: &mut K,
     answers: &[(u32, Answer)],
 ) -> Result<(), WriteStop>
-    ensures { Wrote (K.held sink.old) (K.held sink.new) (K.count sink.old) (K.count sink.new) result
-        (answer_lines 1 answers.now) }
+    ensures { Wrote (change K.held K.count sink.old sink.new) result (answer_lines 1 answers.now) }
 {
     write_each(alloc, sink, 1, answers)
 }
 
-/// Writes the lines of the threads, the first of them number `place`.
+/// Writes the lines of the threads; the first thread has number `place`.
 #[tactic(auto, unfolding(report_defs::specs::ReportText::threads_text))]
 pub fn write_threads<K: Sink>(
     alloc: Global,
     sink: &mut K,
-    place: u64,
+    number: u64,
     threads: &[ThreadSpec],
     answers: &[PartAnswers],
 ) -> Result<(), WriteStop>
-    requires { place + length threads.now < 2 ^ 64 }
-    ensures { Wrote (K.held sink.old) (K.held sink.new) (K.count sink.old) (K.count sink.new) result
-        (threads_text place threads.now answers.now) }
+    requires { number + length threads.now < 2 ^ 64 }
+    ensures { Wrote (change K.held K.count sink.old sink.new) result
+        (threads_text number threads.now answers.now) }
 {
     let Some((thread, more_threads)) = threads.split_first() else {
         return Ok(());
@@ -238,12 +235,12 @@ pub fn write_threads<K: Sink>(
     let Some((own, more_answers)) = answers.split_first() else {
         return Ok(());
     };
-    write_thread_line(alloc, sink, place, thread)?;
+    write_thread_line(alloc, sink, number, thread)?;
     write_answers(alloc, sink, own.as_slice())?;
-    write_threads(alloc, sink, place + 1, more_threads, more_answers)
+    write_threads(alloc, sink, number + 1, more_threads, more_answers)
 }
 
-/// Writes the line of a mirror's thread with the mirror's answers; nothing where there is no thread.
+/// Writes the line of a mirror's thread with the mirror's answers; writes nothing if there is no thread.
 #[tactic(auto, unfolding(crate::specs::Mirrored::mirror_threads_text))]
 pub fn write_mirror_threads<K: Sink>(
     alloc: Global,
@@ -251,7 +248,7 @@ pub fn write_mirror_threads<K: Sink>(
     threads: &[ThreadSpec],
     answers: &[MirrorAnswer],
 ) -> Result<(), WriteStop>
-    ensures { Wrote (K.held sink.old) (K.held sink.new) (K.count sink.old) (K.count sink.new) result
+    ensures { Wrote (change K.held K.count sink.old sink.new) result
         (mirror_threads_text threads.now answers.now) }
 {
     let Some((thread, _)) = threads.split_first() else {
@@ -263,8 +260,7 @@ pub fn write_mirror_threads<K: Sink>(
 
 /// Writes the last line.
 pub fn write_status_line<K: Sink>(alloc: Global, sink: &mut K, status: u32) -> Result<(), WriteStop>
-    ensures { Wrote (K.held sink.old) (K.held sink.new) (K.count sink.old) (K.count sink.new) result
-        (status_line status) }
+    ensures { Wrote (change K.held K.count sink.old sink.new) result (status_line status) }
 {
     let mut line = Line::new(alloc);
     push_number(&mut line, "status ", u64::from(status))?;

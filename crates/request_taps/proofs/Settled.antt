@@ -1,9 +1,9 @@
--- Listeners of which none has more than its limit, as a bus takes them.
+-- Listeners on a bus: none is above its limit.
 use Rattle.std.proofs.Common.{◌≡◌, List, [], ◌∷◌, map, refl, ap}
 use Rattle.nook_io.specs.Listening.{Listening}
 use Rattle.request_taps.specs.Bus.{settled}
 
--- listeners that are settled, seen one by one or all at once
+-- settled listeners, one by one or all at once
 pub settled_all : {A : Type 0} → (listening : A → Listening) (listeners : List A)
     → map (λ l. settled (listening l)) listeners ≡ map settled (map listening listeners)
 settled_all listening [] = refl

@@ -1,4 +1,4 @@
--- Lists of taps, seen as what their listeners hear and have heard.
+-- Lists of taps, viewed as what their listeners hear and have heard.
 use Rattle.std.proofs.Common.{◌≡◌, ◌∙◌, ap, sym, refl, ℕ, zero, suc, ◌+◌, ◌<◌, List, [], ◌∷◌, ◌++◌, length, map, take, drop, get_or, slice_index_or, slice_set, arith}
 use Rattle.std.specs.Prelude.{Result, Ok, Err, IfOk}
 use Rattle.std.proofs.lemmas.Simd.{map-map}
@@ -11,14 +11,14 @@ view_read F [] i x d lt is = let none : ⊥ = omega arith in absurd none
 view_read F (y ∷ ys) zero x d lt is = ap F (sym is)
 view_read F (y ∷ ys) (suc i) x d lt is = view_read F ys i x d (omega arith) is
 
--- the lists are equally long
+-- the lists have the same length
 over_length : {Y : Type 0} (T : Y → Y) (i : ℕ) (items xs : List Y) → items ≡ map T (take i xs) ++ drop i xs → length items ≡ length xs
 over_length T i items xs e =
     ap length e ∙ length-append (map T (take i xs)) (drop i xs)
     ∙ ap (λ (n : ℕ). n + length (drop i xs)) (length-map (take i xs) T)
     ∙ sym (length-append (take i xs) (drop i xs)) ∙ ap length (take-append-drop i xs)
 
--- one more item of a list is changed, as its view tells
+-- one more item of a list is changed, as its view shows
 pub view_over_more : {X Y : Type 0} (F : X → Y) (T : Y → Y) (xs items : List X) (i : ℕ) (x y : X)
     → i < length items
     → map F items ≡ map T (take i (map F xs)) ++ drop i (map F xs)
@@ -32,7 +32,7 @@ view_over_more {X = X} F T xs items i x y lt inv e =
     rw (map-set F items i y, e)
     (map_over_more T (map F xs) (map F items) i (F old) (omega (arith, same, length-map items F)) inv at)
 
--- an item is put in place of another, as its view tells
+-- an item replaces another, as its view shows
 pub view_set : {X Y : Type 0} (F : X → Y) (T : Y → Y) (xs : List X) (i : ℕ) (x y : X) (d : Y)
     → i < length xs
     → x ≡ get_or xs i x
@@ -48,7 +48,7 @@ pub fused : {A B C D : Type 0} (f : A → B) (g : B → C) (h : C → D) (k : A 
 fused f g h k e [] = refl
 fused f g h k e (x ∷ xs) = rw (e x, fused f g h k e xs) refl
 
--- what is said of a list in a result, said of the list that it was made of
+-- a property of a list in a result holds of the list that it was made from
 pub made_of : {X Y Z B E : Type 0} (r : Result B E) (V : B → List Z) (f : X → Y) (g : Y → Z) (ys : List Y) (xs : List X)
     → ys ≡ map f xs
     → IfOk r (λ b. V b ≡ map g ys)

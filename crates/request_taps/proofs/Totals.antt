@@ -1,4 +1,4 @@
--- What a bus tells in the end is what the definition of the totals says.
+-- What a bus reports at the end is what the definition of the totals says.
 use Rattle.std.proofs.Common.{◌≡◌, ◌∙◌, ap, sym, refl, ℕ, ◌+◌, ◌<◌, ◌≤◌, min, Bool, true, false, nat_lt, nat_le, if◌then◌else◌, List, [], ◌∷◌, map, inl, inr, arith}
 use Rattle.std.proofs.lemmas.Bool.{lt-ltb, le-ltb, le-leb, lt-leb, cases_lt}
 use Rattle.std.proofs.lemmas.List.{map-id}
@@ -7,26 +7,26 @@ use Rattle.std.proofs.lemmas.Simd.{map-map}
 use Rattle.nook_io.specs.Listening.{Listening, heard, hears, count_if}
 use Rattle.nook_io.specs.Listening.{heard_events, tap_total, tap_result}
 use Rattle.nook_data.specs.declared.steps.Event.{Event}
-use Rattle.request_taps.specs.Bus.{result_of, settled, heard_below, told, told_all}
+use Rattle.request_taps.specs.Bus.{result_of, settled, heard_below, after_hearing, after_hearing_all}
 use Rattle.request_taps.specs.declared.tap.Tap.{Tap}
 use Rattle.request_taps.specs.declared.tap.Tap.TheVariants as tap
 
 -- one tap after events
-told_each : List (ℕ × Event) → Tap Listening → Tap Listening
-told_each [] t = t
-told_each (e ∷ published) t = told_each published (told e.0 e.1 t)
+after_hearing_each : List (ℕ × Event) → Tap Listening → Tap Listening
+after_hearing_each [] t = t
+after_hearing_each (e ∷ published) t = after_hearing_each published (after_hearing e.0 e.1 t)
 
-told_all_each : (published : List (ℕ × Event)) (taps : List (Tap Listening)) → told_all published taps ≡ map (told_each published) taps
-unfolding told_all told_each
-told_all_each [] taps = sym (map-id taps)
-told_all_each (e ∷ published) taps =
-    told_all_each published (map (told e.0 e.1) taps) ∙ map-map (told_each published) (told e.0 e.1) taps
+heard_all_each : (published : List (ℕ × Event)) (taps : List (Tap Listening)) → after_hearing_all published taps ≡ map (after_hearing_each published) taps
+unfolding after_hearing_all after_hearing_each
+heard_all_each [] taps = sym (map-id taps)
+heard_all_each (e ∷ published) taps =
+    heard_all_each published (map (after_hearing e.0 e.1) taps) ∙ map-map (after_hearing_each published) (after_hearing e.0 e.1) taps
 
 -- a dropped listener hears nothing more
-told_dropped : (published : List (ℕ × Event)) (total : ℕ) → told_each published (tap.Dropped total) ≡ tap.Dropped total
-unfolding told_each
-told_dropped [] total = refl
-told_dropped (e ∷ published) total = told_dropped published total
+heard_dropped : (published : List (ℕ × Event)) (total : ℕ) → after_hearing_each published (tap.Dropped total) ≡ tap.Dropped total
+unfolding after_hearing_each
+heard_dropped [] total = refl
+heard_dropped (e ∷ published) total = heard_dropped published total
 
 -- what a listener hears does not depend on its total
 heard_events_same : (l : Listening) (total : ℕ) (published : List (ℕ × Event)) → heard_events (record l { total = total }) published ≡ heard_events l published
@@ -43,7 +43,7 @@ settled_at l at = rw (le-ltb l.total l.limit at) refl
 heard_is : (part : ℕ) (event : Event) (l : Listening) → l.total < l.limit → heard_below part event l ≡ heard part event l
 heard_is part event l below = rw (lt-ltb l.total l.limit below) refl
 
--- a total that is not above its limit is no special case
+-- a total that is at most its limit needs no separate case
 reached : (limit n more : ℕ) → n ≤ limit → (if nat_le limit n then n else min limit (n + more)) ≡ min limit (n + more)
 reached limit n more h = elim (cases_lt n limit) [
   | inr at ↦ rw (le-leb limit n at) (omega arith)
@@ -73,8 +73,8 @@ heard_total part event l published below =
     (counted l.limit l.total (heard_events l published) (hears l part event) below)
     ∙ sym (total_below l ((part, event) ∷ published) below)
 
-first_total : (l : Listening) → result_of (told_each [] (settled l)) ≡ tap_result l []
-unfolding told_each heard_events
+first_total : (l : Listening) → result_of (after_hearing_each [] (settled l)) ≡ tap_result l []
+unfolding after_hearing_each heard_events
 first_total l = elim (cases_lt l.total l.limit) [
   | inr at ↦ rw (settled_at l at) (sym (result_at l [] at))
   | inl below ↦
@@ -83,22 +83,22 @@ first_total l = elim (cases_lt l.total l.limit) [
 ]
 
 next_total : (part : ℕ) (event : Event) (published : List (ℕ × Event))
-    → ((l : Listening) → result_of (told_each published (settled l)) ≡ tap_result l published)
-    → (l : Listening) → result_of (told_each ((part, event) ∷ published) (settled l)) ≡ tap_result l ((part, event) ∷ published)
-unfolding told_each
+    → ((l : Listening) → result_of (after_hearing_each published (settled l)) ≡ tap_result l published)
+    → (l : Listening) → result_of (after_hearing_each ((part, event) ∷ published) (settled l)) ≡ tap_result l ((part, event) ∷ published)
+unfolding after_hearing_each
 next_total part event published each l = elim (cases_lt l.total l.limit) [
-  | inr at ↦ rw (settled_at l at, told_dropped published l.total) (sym (result_at l ((part, event) ∷ published) at))
+  | inr at ↦ rw (settled_at l at, heard_dropped published l.total) (sym (result_at l ((part, event) ∷ published) at))
   | inl below ↦
       rw (settled_below l below, heard_is part event l below)
       (each (heard part event l) ∙ ap (λ (n : ℕ). (n, nat_lt n l.limit)) (heard_total part event l published below))
 ]
 
-one_total : (published : List (ℕ × Event)) (l : Listening) → result_of (told_each published (settled l)) ≡ tap_result l published
+one_total : (published : List (ℕ × Event)) (l : Listening) → result_of (after_hearing_each published (settled l)) ≡ tap_result l published
 one_total [] l = first_total l
 one_total (e ∷ published) l = next_total e.0 e.1 published (one_total published) l
 
 pub all_totals : (listeners : List Listening) (published : List (ℕ × Event))
-    → map result_of (told_all published (map settled listeners)) ≡ map (λ l. tap_result l published) listeners
+    → map result_of (after_hearing_all published (map settled listeners)) ≡ map (λ l. tap_result l published) listeners
 all_totals listeners published =
-    ap (λ z. map result_of z) (told_all_each published (map settled listeners))
-    ∙ fused settled (told_each published) result_of (λ l. tap_result l published) (one_total published) listeners
+    ap (λ z. map result_of z) (heard_all_each published (map settled listeners))
+    ∙ fused settled (after_hearing_each published) result_of (λ l. tap_result l published) (one_total published) listeners

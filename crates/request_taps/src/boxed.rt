@@ -1,4 +1,4 @@
-//! Listeners of any kind, as listeners of one type.
+//! Listeners of any type as listeners of one type.
 
 ghost use Rattle.std.specs.Prelude.{◌≡◌, map, IfOk};
 
@@ -7,27 +7,27 @@ use nook_data::steps::Event;
 use nook_io::outside::Listener;
 use std::alloc::Global;
 
-/// A value in a type of this crate.
+/// A wrapper that makes a value's type one of this crate.
 #[derive(Drop)]
-pub struct Held<T> {
+pub struct BoxedListener<T> {
     value: T,
 }
 
-/// A listener that is heard through its trait alone.
-pub type Boxed = Held<Box<dyn Listener>>;
+/// A listener that is used only through its trait.
+pub type Boxed = BoxedListener<Box<dyn Listener>>;
 
-/// Values, each held.
-pub fn all_held<T: Drop>(alloc: Global, values: Vec<T>) -> Result<Vec<Held<T>>, NoMemory>
+/// Wraps each value.
+pub fn all_held<T: Drop>(alloc: Global, values: Vec<T>) -> Result<Vec<BoxedListener<T>>, NoMemory>
     ensures { IfOk result (λ made. made.items ≡ map (λ v. record { value = v }) values.items) }
 {
     let made = values
         .into_iter()
-        .map(|value| Held { value })
+        .map(|value| BoxedListener { value })
         .collect(alloc)?;
     Ok(made)
 }
 
-impl Listener for Held<Box<dyn Listener>> {
+impl Listener for BoxedListener<Box<dyn Listener>> {
     ghost listening = { λ s. (Listener-box s.value).listening s.value.value };
 
     fn part_mask(&self) -> u8 {

@@ -2,7 +2,7 @@
 
 ghost use Rattle.std.specs.Prelude.{◌≡◌, ◌<◌, map, length, slice_set, IfOk};
 ghost use Rattle.request_taps.specs.Bus.{detach_answer, detached, is_present, result_of, seen, settled, settled_tap};
-ghost use Rattle.request_taps.specs.Bus.{tap_at, told, total_of};
+ghost use Rattle.request_taps.specs.Bus.{tap_at, after_hearing, total_of};
 
 use crate::boxed::{Boxed, all_held};
 use crate::tap::Tap;
@@ -14,7 +14,7 @@ use nook_io::outside::Listener;
 use std::alloc::Global;
 use std::marker::Model;
 
-/// Listeners in order, each there or dropped. Contracts see the list of their taps.
+/// Listeners in order, each attached or dropped. Contracts see the list of their taps.
 #[derive(Drop)]
 pub struct Bus<L> {
     taps: Vec<Tap<L>>,
@@ -33,20 +33,23 @@ impl<L> Model for Bus<L> {
 }
 
 impl TapBus {
-    /// A bus of these listeners. One whose total has reached its limit is dropped at once, and its total is kept.
+    /// A bus of these listeners. One whose total has reached its limit is dropped at once, but its total is stored.
     /// After `NoMemory` all listeners are dropped.
     pub fn new(alloc: Global, listeners: Vec<Box<dyn Listener>>) -> Result<TapBus, NoMemory>
         ensures { IfOk result (λ bus. map (seen ⟦<Boxed as Listener>⟧.listening) bus
-            ≡ map (λ b. settled ((⟦<dyn Listener as Listener>⟧ b.vtable).listening b.value)) listeners.items) }
+            ≡ map (λ b. settled ((⟦<dyn Listener as Listener>⟧ b.vtable).listening b.value))
+            listeners.items) }
     {
         Bus::of(alloc, all_held(alloc, listeners)?)
     }
 }
 
 impl<L: Listener> Bus<L> {
-    /// A bus of listeners of one type, as `new` makes it of boxes.
+    /// A bus of listeners of one type. It is like `new` without boxes.
     pub fn of(alloc: Global, listeners: Vec<L>) -> Result<Bus<L>, NoMemory>
-        ensures { IfOk result (λ bus. map (seen L.listening) bus ≡ map (λ l. settled (L.listening l)) listeners.items) }
+        ensures { IfOk result
+            (λ bus. map (seen L.listening) bus
+            ≡ map (λ l. settled (L.listening l)) listeners.items) }
     {
         let mut bus = Bus {
             taps: all_present(alloc, listeners)?,
@@ -55,28 +58,31 @@ impl<L: Listener> Bus<L> {
         Ok(bus)
     }
 
-    /// Drops each listener that is at its limit, and keeps its total.
+    /// Drops each listener that is at its limit, and stores its total.
     fn settle(&mut self)
-        ensures { map (seen L.listening) self.new ≡ map settled_tap (map (seen L.listening) self.old) }
+        ensures { map (seen L.listening) self.new
+            ≡ map settled_tap (map (seen L.listening) self.old) }
     {
         settle(&mut self.taps);
     }
 
-    /// Each listener that is there hears an event of a part. One whose total then reaches its limit is dropped, and
-    /// its total is kept.
+    /// Each attached listener hears an event of a part. One whose total then reaches its limit is dropped, and its
+    /// total is stored.
     pub fn publish(&mut self, part: u8, event: &Event)
-        ensures { map (seen L.listening) self.new ≡ map (told part event.now) (map (seen L.listening) self.old) }
+        ensures { map (seen L.listening) self.new
+            ≡ map (after_hearing part event.now) (map (seen L.listening) self.old) }
     {
-        tell(&mut self.taps, part, event);
+        report(&mut self.taps, part, event);
     }
 
-    /// Drops listener `i`, counted from 0, and gives its total, which is kept; `None` exactly where it is not there
-    /// any more.
+    /// Drops listener `i`, counted from 0, and returns its total, which stays stored; `None` exactly if it is no longer
+    /// attached.
     pub fn detach(&mut self, i: usize) -> Option<u64>
         requires { i < length self.old }
         ensures answer { result ≡ detach_answer (tap_at i (map (seen L.listening) self.old)) }
         ensures taps { map (seen L.listening) self.new
-            ≡ slice_set (map (seen L.listening) self.old) i (detached (tap_at i (map (seen L.listening) self.old))) }
+            ≡ slice_set (map (seen L.listening) self.old) i
+            (detached (tap_at i (map (seen L.listening) self.old))) }
     {
         self.taps[i].detach()
     }
@@ -89,7 +95,7 @@ impl<L: Listener> Bus<L> {
         self.taps[i].total()
     }
 
-    /// Each listener's total, and whether it was kept.
+    /// Each listener's total, and whether it is still attached.
     pub fn totals(&self, alloc: Global) -> Result<TapTotals, NoMemory>
         ensures { IfOk result (λ made. made ≡ map result_of (map (seen L.listening) self.now)) }
     {
@@ -100,7 +106,7 @@ impl<L: Listener> Bus<L> {
         Ok(made)
     }
 
-    /// Whether listener `i`, counted from 0, is there.
+    /// Whether listener `i`, counted from 0, is attached.
     pub fn present(&self, i: usize) -> bool
         requires { i < length self.now }
         ensures { result ≡ is_present (tap_at i (map (seen L.listening) self.now)) }
@@ -108,7 +114,7 @@ impl<L: Listener> Bus<L> {
         self.taps[i].is_present()
     }
 
-    /// The number of listeners, those that were dropped too.
+    /// The number of listeners, including dropped ones.
     pub fn len(&self) -> usize
         ensures { result ≡ length self.now }
     {
@@ -116,9 +122,10 @@ impl<L: Listener> Bus<L> {
     }
 }
 
-/// Each tap's listener that is there hears an event of a part.
-fn tell<L: Listener>(taps: &mut [Tap<L>], part: u8, event: &Event)
-    ensures { map (seen L.listening) taps.new ≡ map (told part event.now) (map (seen L.listening) taps.old) }
+/// Each attached listener of these taps hears an event of a part.
+fn report<L: Listener>(taps: &mut [Tap<L>], part: u8, event: &Event)
+    ensures { map (seen L.listening) taps.new
+        ≡ map (after_hearing part event.now) (map (seen L.listening) taps.old) }
 {
     for tap in taps {
         tap.hear(part, event);
@@ -136,7 +143,7 @@ fn all_present<L: Listener>(alloc: Global, listeners: Vec<L>) -> Result<Vec<Tap<
     Ok(made)
 }
 
-/// Drops each listener that is at its limit, and keeps its total.
+/// Drops each listener that is at its limit, and stores its total.
 fn settle<L: Listener>(taps: &mut [Tap<L>])
     ensures { map (seen L.listening) taps.new ≡ map settled_tap (map (seen L.listening) taps.old) }
 {

@@ -1,6 +1,6 @@
 //! The bus of listeners that hear a run's events.
 //!
-//! A listener is dropped when its total reaches its limit, when it is detached, or with the bus. Its total is kept.
+//! A listener is dropped when its total reaches its limit, when it is detached, or with the bus. Its total remains.
 #![tactic(auto)]
 
 mod boxed;
@@ -8,6 +8,6 @@ mod bus;
 mod laws;
 mod tap;
 
-pub use boxed::{Boxed, Held};
+pub use boxed::{Boxed, BoxedListener};
 pub use bus::{Bus, TapBus};
-pub use laws::every_bus_tells_the_totals;
+pub use laws::every_bus_reports_the_totals;

@@ -1,13 +1,13 @@
-//! One listener's place on the bus.
+//! One listener's position on the bus.
 
 ghost use Rattle.std.specs.Prelude.{◌≡◌, ◌<◌, false};
-ghost use Rattle.request_taps.specs.Bus.{detach_answer, detached, heard_below, is_present, seen, settled_tap, told};
+ghost use Rattle.request_taps.specs.Bus.{detach_answer, detached, heard_below, is_present, seen, settled_tap, after_hearing};
 ghost use Rattle.request_taps.specs.Bus.{total_of};
 
 use nook_data::steps::Event;
 use nook_io::outside::Listener;
 
-/// A listener that is there, or the total of one that was dropped.
+/// An attached listener, or the total of a dropped one.
 #[derive(Drop)]
 pub enum Tap<L> {
     Present(L),
@@ -15,7 +15,7 @@ pub enum Tap<L> {
 }
 
 impl<L: Listener> Tap<L> {
-    /// Drops a listener that is at its limit, and keeps its total.
+    /// Drops a listener that is at its limit, and stores its total.
     pub fn settle(&mut self)
         ensures { seen L.listening self.new ≡ settled_tap (seen L.listening self.old) }
     {
@@ -27,10 +27,11 @@ impl<L: Listener> Tap<L> {
         }
     }
 
-    /// The listener hears an event of a part, where it is there and below its limit. It is dropped where its total
+    /// The listener hears an event of a part if it is attached and below its limit. It is dropped if its total
     /// reaches its limit.
     pub fn hear(&mut self, part: u8, event: &Event)
-        ensures { seen L.listening self.new ≡ told part event.now (seen L.listening self.old) }
+        ensures { seen L.listening self.new
+            ≡ after_hearing part event.now (seen L.listening self.old) }
     {
         if let Tap::Present(listener) = self {
             if hear_below(listener, part, event) {
@@ -39,7 +40,7 @@ impl<L: Listener> Tap<L> {
         }
     }
 
-    /// Drops the listener and gives its total; `None` exactly where it is not there any more.
+    /// Drops the listener and returns its total; `None` exactly if it is no longer attached.
     pub fn detach(&mut self) -> Option<u64>
         ensures answer { result ≡ detach_answer (seen L.listening self.old) }
         ensures tap { seen L.listening self.new ≡ detached (seen L.listening self.old) }
@@ -52,7 +53,7 @@ impl<L: Listener> Tap<L> {
         Some(heard)
     }
 
-    /// The total of the listener, or the one that was kept of it.
+    /// The total of the listener, or the one stored when it was dropped.
     pub fn total(&self) -> u64
         ensures { result ≡ total_of (seen L.listening self.now) }
     {
@@ -64,7 +65,7 @@ impl<L: Listener> Tap<L> {
 }
 
 impl<L> Tap<L> {
-    /// Whether the listener is there.
+    /// Whether the listener is attached.
     pub fn is_present(&self) -> bool
         ensures { result ≡ is_present self.now }
     {
@@ -72,11 +73,13 @@ impl<L> Tap<L> {
     }
 }
 
-/// A listener below its limit hears an event of a part. The answer is whether it may be at its limit now, which it is not
-/// asked again: an event makes its total one more at most.
+/// A listener below its limit hears an event of a part. Returns whether it may be at its limit now. The listener is not
+/// asked again, since an event adds at most one to its total.
 fn hear_below<L: Listener>(listener: &mut L, part: u8, event: &Event) -> bool
-    ensures heard { L.listening listener.new ≡ heard_below part event.now (L.listening listener.old) }
-    ensures below { result ≡ false → (L.listening listener.new).total < (L.listening listener.new).limit }
+    ensures heard { L.listening listener.new
+        ≡ heard_below part event.now (L.listening listener.old) }
+    ensures below { result ≡ false
+        → (L.listening listener.new).total < (L.listening listener.new).limit }
 {
     let left = listener.limit().saturating_sub(listener.total());
     if left > 0 {

@@ -1,4 +1,4 @@
-//! A part that takes as many calls as it may, which is more than any scenario asks for.
+//! A part that takes as many calls as it may, which is more than any scenario makes.
 
 use nook_data::calls::Op;
 use nook_data::lists::TryCopy;

@@ -1,5 +1,5 @@
-//! What no clause says of runs and their texts: the tests of `part_core`, `request_taps`, `scenario_write` and `turn_trace`,
-//! in a crate of their own.
+//! What contracts do not say about runs and their texts: the tests of `part_core`, `request_taps`, `scenario_write` and
+//! `turn_trace`, in a separate crate.
 #![tactic(auto)]
 
 #[cfg(test)]

@@ -1,4 +1,4 @@
-//! A listener that tells what is done to it, and one that is detached.
+//! A listener that records how it is used, and one that is detached.
 
 use nook_data::lists::Items;
 use nook_data::steps::{End, Event, Stage};
@@ -10,7 +10,7 @@ use std::sync::Arc;
 use std::sync::atomic::{AtomicU64, Ordering};
 use std::test::Fail;
 
-/// Counts in shared places how often it is called, and how often one such listener is dropped.
+/// Counts in shared counters how often it is called, and how often such a listener is dropped.
 struct Watched {
     inner: CountListener,
     calls: Arc<AtomicU64, Global>,
@@ -76,8 +76,8 @@ fn reset(alloc: Global) -> Event {
     }
 }
 
-/// A listener is called as often as its total says, and dropped once: at its limit. Another hears the bursts until it is
-/// detached, and a third was at its limit from the start.
+/// A listener is called as often as its total says, and is dropped once, at its limit. Another hears the bursts until
+/// it is detached, and a third is at its limit from the start.
 #[test]
 fn listeners_are_called_and_dropped(rt: HostRuntime) -> Result<(), Fail> {
     let alloc = rt.alloc();
@@ -101,9 +101,9 @@ fn listeners_are_called_and_dropped(rt: HostRuntime) -> Result<(), Fail> {
     if bus.len() > 1 {
         assert_eq!(rt; bus.detach(1), Some(3));
     }
-    let told = bus.totals(alloc)?;
+    let reported = bus.totals(alloc)?;
     assert_eq!(rt;
-        told.as_slice(),
+        reported.as_slice(),
         [(3, false), (3, false), (0, false)].as_slice()
     );
     Ok(())

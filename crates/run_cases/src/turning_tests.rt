@@ -12,14 +12,14 @@ use std::alloc::Global;
 use std::test::Fail;
 use turn_trace::trace_burst;
 
-/// A disk whose driver counts its turns in a register.
+/// A disk whose driver counts its instructions in a register.
 const COUNTS: &str =
     r#"{"version":1,"parts":[{"name":"d0","class":"block","blocks":4,"driver":{"asm":
 ".class block\n.entry init 0\n.entry read 0\n.entry write 0\n.entry get 0\n.entry set 0\nADDI r1 r1 1\nADDI r1 r1 1\nADDI r1 r1 1\nADDI r1 r1 1\nADDI r1 r1 1\nRET r0\n"
 }}],"threads":[]}"#;
 
-/// The turns that were taken, as the driver and as its counter have them, and the lines that were written, if the write of
-/// this number fails.
+/// The number of instructions that ran, by the driver's register and by its counter, and the number of lines written,
+/// if write number `failing` fails.
 fn turns_and_lines(
     alloc: Global,
     scenario: &Scenario,
@@ -44,7 +44,7 @@ fn turns_and_lines(
     Ok((cpu.registers[1], cpu.counter, text.lines().count()))
 }
 
-/// The line of a turn is written before the next is taken: if the write of one fails, no turn after it was taken.
+/// The line of an instruction is written before the next one runs: if its write fails, no later instruction has run.
 #[test]
 fn a_line_is_written_before_the_next_turn(rt: HostRuntime) -> Result<(), Fail> {
     let Ok(scenario) = read_scenario(rt.alloc(), COUNTS.as_bytes()) else {

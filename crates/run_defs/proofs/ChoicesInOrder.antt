@@ -1,4 +1,4 @@
--- The choices of a simulation, each before those of the later actors.
+-- The choices of a simulation are in the order of their actors.
 use Rattle.std.proofs.Common.{◌≡◌, ℕ, ◌+◌, ◌*◌, Option, Some, None, List, [], ◌∷◌, ◌++◌, length, slice_get, refl, sym, ap, ◌∙◌, arith}
 use Rattle.std.specs.Prelude.{filter_map, flat_map}
 use Rattle.std.specs.List.{cons_option, enumerate_from}
@@ -8,31 +8,31 @@ use Rattle.part_defs.specs.Runs.{next_recovery}
 use Rattle.run_defs.specs.Simulation.{Choice, RunningPart, Simulation, ThreadState, Waiting, arrival, choice_of}
 use Rattle.run_defs.specs.Simulation.{choice_of_thread, choices_of, choices_of_part, going_on, invocation}
 
--- the choice before those of later actors, where there is a step
+-- puts a choice, if there is a step, before those of later actors
 abbrev pub with_choice : ℕ → ℕ → Option Step → List Choice → List Choice
 with_choice actor part None choices = choices
 with_choice actor part (Some s) choices = record { actor = actor; part = part; step = s } ∷ choices
 
--- a thread invokes its next operation
+-- puts the invocation of a thread's next operation before the choices of later actors
 abbrev pub with_invocation : ℕ → List RunningPart → List (ℕ × Op) → List Choice → List Choice
 with_invocation thread parts [] choices = choices
 with_invocation thread parts ((part, o) ∷ rest) choices =
     with_choice thread part (invocation thread o (slice_get parts part)) choices
 
--- a thread with an open call goes on with it, else it invokes
+-- a thread continues its open call if it has one; otherwise it invokes an operation
 abbrev pub with_thread : ℕ → List RunningPart → ThreadState → Option Waiting → List Choice → List Choice
 with_thread thread parts t None choices = with_invocation thread parts t.rest choices
 with_thread thread parts t (Some w) choices =
     with_choice thread w.part (going_on thread (slice_get parts w.part)) choices
 
--- the recovery of a part, then its arrivals
+-- the steps of a part's recovery, followed by its arrivals
 abbrev pub part_choices : ℕ → ℕ → List RunningPart → List Choice
 part_choices actor part [] = []
 part_choices actor part (seat ∷ parts) =
     with_choice actor part (next_recovery seat.run.state)
     (with_choice (actor + 1) part (arrival seat.run seat.coming) (part_choices (actor + 2) (part + 1) parts))
 
--- the choices of threads from a number on, before the later ones
+-- the choices of threads from a number on, followed by the choices of later actors
 abbrev pub thread_choices : ℕ → List RunningPart → List ThreadState → List Choice → List Choice
 thread_choices thread parts [] choices = choices
 thread_choices thread parts (t ∷ threads) choices =
@@ -83,7 +83,7 @@ parts_in_order count actor part (seat ∷ parts) h =
     ∙ ap (λ n. with_choice n part (next_recovery seat.run.state)
     (with_choice (n + 1) part (arrival seat.run seat.coming) (part_choices (actor + 2) (part + 1) parts))) (sym h)
 
--- the choices of all threads stand before those of all parts, each before the later ones
+-- the choices of all threads come before those of all parts, and each list is in the order of the actors
 pub choices_in_order : (s : Simulation)
     → choices_of s ≡ thread_choices 0 s.parts s.threads (part_choices (length s.threads) 0 s.parts)
 unfolding choices_of

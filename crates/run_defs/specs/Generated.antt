@@ -8,7 +8,7 @@ use Rattle.nook_data.specs.declared.classes.Class.TheVariants as class
 use Rattle.nook_data.specs.declared.scenario.FaultKind.TheVariants as strikes
 use Rattle.nook_data.specs.declared.scenario.ScheduleSpec.TheVariants as schedule
 
--- The scenario that `gen` makes for a number: a disk that fails eight times, a link and a sound stream, and four
+-- The scenario that `gen` generates for a number: a disk that fails eight times, a link and a sound stream, and four
 -- threads.
 
 -- a part without blocks, faults and arrivals, which may fail sixteen times
@@ -16,7 +16,7 @@ abbrev pub generated_part : List ℕ → Class → Image → PartSpec
 generated_part name class image =
     record { name = name; class = class; blocks = 0; bad = []; limit = 16; image = image; faults = []; arrivals = [] }
 
--- a block part of 64 blocks, with a trap in every fifth burst up to the 40th, after 40 turns
+-- a block part of 64 blocks, with a trap in every fifth burst up to the 40th, after 40 instructions
 abbrev pub generated_disk : PartSpec
 generated_disk = record (generated_part (codes "disk") class.Block block_image) {
   blocks = 64;
@@ -33,7 +33,7 @@ frames_to (suc n) = frames_to n ++ (suc n ∷ []) ∷ []
 abbrev pub generated_link : ℕ → PartSpec
 generated_link n = record (generated_part (codes "link") class.Net net_image) { arrivals = frames_to n }
 
--- operation k of thread t, by which of six it is
+-- operation k of thread t; `which` selects one of six
 abbrev pub generated_op : ℕ → ℕ → ℕ → ℕ × Op
 generated_op t k which =
     if which == 0 then (0, op.Write ((16 * t + k) % 64) (replicate 16 (1000 * t + k)))
@@ -48,11 +48,11 @@ abbrev pub ops_to : ℕ → ℕ → List (ℕ × Op)
 ops_to t zero = []
 ops_to t (suc k) = ops_to t k ++ generated_op t k ((t + k) % 6) ∷ []
 
--- thread t, with its first n operations
+-- thread t with its first n operations
 abbrev pub generated_thread : ℕ → ℕ → ThreadSpec
 generated_thread n t = record { name = codes "t" ++ decimal t; ops = ops_to t n }
 
--- n operations a thread, n arrivals, and the schedule drawn from n
+-- n operations for each thread, n arrivals, and the schedule drawn from n
 unfoldable pub generated : ℕ → Scenario
 generated n = record {
   schedule = schedule.Drawn n;

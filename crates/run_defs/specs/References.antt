@@ -15,7 +15,7 @@ block_words =
     0x1460000b ∷ 0x0d630000 ∷ 0x17000000 ∷ 0x01500001 ∷ 0x0f150038 ∷ 0x01500002 ∷ 0x0f15003a ∷ 0x01500003 ∷ 0x0f15003c ∷
     0x15200008 ∷ 0x17000000 ∷ 0x15200009 ∷ 0x17000000 ∷ 0x1520000a ∷ 0x17000000 ∷ 0x1520000b ∷ 0x17000000 ∷ []
 
--- its image
+-- the image of the block driver
 abbrev pub block_image : Image
 block_image = record { class = class.Block; entries = 0 ∷ 4 ∷ 18 ∷ 33 ∷ 48 ∷ []; text = block_words; initial = [] }
 
@@ -30,7 +30,7 @@ net_words =
     0x17000000 ∷ 0x01500001 ∷ 0x0f150036 ∷ 0x01500002 ∷ 0x0f150038 ∷ 0x01500003 ∷ 0x0f15003a ∷ 0x15200008 ∷ 0x17000000 ∷
     0x15200009 ∷ 0x17000000 ∷ 0x1520000a ∷ 0x17000000 ∷ 0x1520000b ∷ 0x17000000 ∷ []
 
--- its image
+-- the image of the net driver
 abbrev pub net_image : Image
 net_image = record { class = class.Net; entries = 0 ∷ 4 ∷ 13 ∷ 31 ∷ 46 ∷ []; text = net_words; initial = [] }
 
@@ -43,6 +43,6 @@ sound_words =
     0x17000000 ∷ 0x01500001 ∷ 0x0f150024 ∷ 0x01500002 ∷ 0x0f150026 ∷ 0x01500003 ∷ 0x0f150028 ∷ 0x15200008 ∷ 0x17000000 ∷
     0x15200009 ∷ 0x17000000 ∷ 0x1520000a ∷ 0x17000000 ∷ 0x1520000b ∷ 0x17000000 ∷ []
 
--- its image
+-- the image of the sound driver
 abbrev pub sound_image : Image
 sound_image = record { class = class.Sound; entries = 0 ∷ 4 ∷ 6 ∷ 5 ∷ 13 ∷ 28 ∷ []; text = sound_words; initial = [] }

@@ -16,28 +16,28 @@ pub record Waiting : Type 0 where
   pub part : ℕ
   pub call : ℕ
 
--- a thread: the operations that it has not invoked, its open call, and its answers, each with its part
+-- a thread: the operations that it has not invoked yet, its open call, and its answers, each with its part
 pub record ThreadState : Type 0 where
   pub rest : List (ℕ × Op)
   pub waiting : Option Waiting
   pub answers : List (ℕ × Answer)
 
--- a part and the frames that have not arrived
+-- a part and the frames that have not arrived yet
 pub record RunningPart : Type 0 where
   pub run : PartRun
   pub coming : List (List ℕ)
 
--- a scenario as it runs: its schedule, its parts and its threads
+-- the state of a scenario's run: its schedule, its parts and its threads
 pub record Simulation : Type 0 where
   pub order : Order
   pub parts : List RunningPart
   pub threads : List ThreadState
 
--- a thread at first: all its operations are to come
+-- the initial thread: it has not invoked any operation
 abbrev pub opening_thread : ThreadSpec → ThreadState
 opening_thread t = record { rest = t.ops; waiting = None; answers = [] }
 
--- a part at first: all its arrivals are to come
+-- the initial part: no frame has arrived
 abbrev pub opening_part : PartSpec → RunningPart
 opening_part spec = record { run = opening_run spec; coming = spec.arrivals }
 
@@ -49,7 +49,7 @@ begins s = record {
   threads = map opening_thread s.threads;
 }
 
--- What may be taken next
+-- The possible next steps
 
 -- a step that an actor can take, and the part that takes it
 pub record Choice : Type 0 where
@@ -57,30 +57,30 @@ pub record Choice : Type 0 where
   pub part : ℕ
   pub step : Step
 
--- an actor's choice, where it has a step
+-- an actor's choice, if it has a step
 abbrev pub choice_of : ℕ → ℕ → Option Step → Option Choice
 choice_of actor part s = option_map (λ s. record { actor = actor; part = part; step = s }) s
 
--- the Invoke of an operation, where it may be taken; a valid scenario names no part that is not there
+-- the Invoke of an operation, if it may be taken; a valid scenario names only existing parts
 abbrev pub invocation : ℕ → Op → Option RunningPart → Option Step
 invocation thread o p = elim p [ None ↦ None | Some seat ↦ if_enabled seat.run.state (step.Invoke thread o) None ]
 
--- the next step of the thread's open call; it is open in a part that is there
+-- the next step of the thread's open call, whose part always exists
 abbrev pub going_on : ℕ → Option RunningPart → Option Step
 going_on thread part = elim part [ None ↦ None | Some seat ↦ next_for seat.run.state thread ]
 
--- a thread goes on with its open call; where it has none it invokes its next operation
+-- a thread continues its open call; if it has none, it invokes its next operation
 abbrev pub choice_of_thread : List RunningPart → ℕ × ThreadState → Option Choice
 choice_of_thread parts (thread, t) = elim t.waiting [
   | Some w ↦ choice_of thread w.part (going_on thread (slice_get parts w.part))
   | None ↦ elim t.rest [ [] ↦ None | (o ∷ rest) ↦ choice_of thread o.0 (invocation thread o.1 (slice_get parts o.0)) ]
 ]
 
--- the next arrival, where it may be taken
+-- the next arrival, if it may be taken
 abbrev pub arrival : PartRun → List (List ℕ) → Option Step
 arrival r coming = elim coming [ [] ↦ None | (frame ∷ rest) ↦ if_enabled r.state (step.Arrive frame) None ]
 
--- the recovery of a part, then its arrivals
+-- the recovery of a part, followed by its arrivals
 abbrev pub choices_of_part : ℕ → ℕ × RunningPart → List Choice
 choices_of_part threads (part, seat) = cons_option (choice_of (threads + 2 * part) part (next_recovery seat.run.state))
     (cons_option (choice_of (threads + 2 * part + 1) part (arrival seat.run seat.coming)) [])
@@ -90,9 +90,9 @@ unfoldable pub choices_of : Simulation → List Choice
 choices_of s = filter_map (choice_of_thread s.parts) (enumerate_from 0 s.threads)
     ++ flat_map (choices_of_part (length s.threads)) (enumerate_from 0 s.parts)
 
--- What a step changes
+-- The changes by a step
 
--- the number by which the schedule knows a choice
+-- the number of a choice's actor, by which the schedule picks
 abbrev pub actor_of : Choice → ℕ
 actor_of c = c.actor
 
@@ -104,7 +104,7 @@ started thread part (event.Invoke call t o answer) s = record s {
 }
 started thread part _ s = s
 
--- a thread after an event of a part: where that answers its open call it waits no more, and has the answer
+-- a thread after an event of a part: if the event answers its open call, it no longer waits and has the answer
 abbrev pub thread_after : ℕ → Event → ThreadState → ThreadState
 thread_after part e s = elim s.waiting [
   | None ↦ s
@@ -114,22 +114,22 @@ thread_after part e s = elim s.waiting [
   ]
 ]
 
--- the threads after an event of a part; the one that takes the step is told of it as well
+-- the threads after an event of a part; an Invoke also updates the thread that takes the step
 abbrev pub threads_after : ℕ → ℕ → Event → List ThreadState → List ThreadState
 threads_after thread part e [] = []
 threads_after thread part e (s ∷ threads) =
     thread_after part e (started thread part e s) ∷ threads_after (thread + 1) part e threads
 
--- an arrival takes the next frame
+-- the frames still to arrive after a step: an arrival takes the next one
 abbrev pub coming_after : Step → List (List ℕ) → List (List ℕ)
 coming_after (step.Arrive frame) (next ∷ coming) = coming
 coming_after s coming = coming
 
--- a part after a step of it
+-- a part after one of its steps
 abbrev pub part_after : Step → RunningPart → RunningPart
 part_after s seat = record { run = run_after seat.run s; coming = coming_after s seat.coming }
 
--- the simulation after a choice in a part; there is no choice in a part that is not there
+-- the simulation after a choice in a part; the part of a choice always exists
 abbrev pub stepped_by : Simulation → Order → Choice → Option RunningPart → Simulation
 stepped_by s order c None = record s { order = order }
 stepped_by s order c (Some seat) = record {
@@ -138,16 +138,16 @@ stepped_by s order c (Some seat) = record {
   threads = threads_after 0 c.part (event_of seat.run.state c.step) s.threads;
 }
 
--- the simulation after the choice that the schedule picks, where there is one
+-- the simulation after the choice that the schedule picks, if there is one
 unfoldable pub taken : Simulation → List Choice → Simulation
 taken s choices =
     let p = picked s.order (map actor_of choices) in
-    elim (slice_get choices p.place) [
+    elim (slice_get choices p.index) [
       | None ↦ record s { order = p.order }
       | Some c ↦ stepped_by s p.order c (slice_get s.parts c.part)
     ]
 
--- at most so many steps, until no actor has one
+-- takes at most this many steps, and ends if no actor has one
 unfoldable pub runs : ℕ → Simulation → Simulation
 runs zero s = s
 runs (suc more) s = elim (choices_of s) [ [] ↦ s | (c ∷ choices) ↦ runs more (taken s (c ∷ choices)) ]
@@ -166,7 +166,7 @@ journal_of seat = seat.run.journal
 abbrev pub answers_of_thread : ThreadState → List (ℕ × Answer)
 answers_of_thread t = t.answers
 
--- one journal a part
+-- the journals of the parts
 abbrev pub journals_of : Simulation → List (List Event)
 journals_of s = map journal_of s.parts
 

@@ -1,2 +1,2 @@
 mod Objects
-pub mod Told
+pub mod Heard

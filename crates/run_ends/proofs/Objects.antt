@@ -1,7 +1,7 @@
 -- The kernel objects of a part, one by one.
 use Rattle.std.proofs.Common.{◌≡◌, ℕ, suc, ◌+◌, ◌-◌, ◌<◌, List, [], ◌∷◌, ◌++◌, refl, sym, ap, ◌∙◌, arith, add-one, append-nil, append_assoc}
 use Rattle.machine_defs.specs.Pages.{object_words}
-use Rattle.report_text.specs.Whole.{objects_from}
+use Rattle.run_results.specs.Reports.{objects_from}
 use Rattle.run_ends.specs.Ends.{objects_in}
 
 next_object : (object left : ℕ) (memory : List ℕ) → left ≡ suc (12 - object) → objects_from object left memory

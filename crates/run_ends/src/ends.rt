@@ -1,4 +1,4 @@
-//! What each part of a run ends in, for the report.
+//! The final state of each part of a run, for the report.
 
 ghost use Rattle.std.specs.Prelude.{◌≡◌, IfOk};
 ghost use Rattle.run_ends.specs.Ends.{end_of, objects_in};
@@ -7,10 +7,10 @@ use nook_data::limits::BLOCK_WORDS;
 use nook_data::lists::{Frames, Items, Word};
 use nook_data::memory::NoMemory;
 use part_core::Part;
-use report_text::PartEnd;
+use run_results::PartEnd;
 use std::alloc::Global;
 
-/// What a part ends in: its kernel objects 1 to 12, its medium, its configuration and its failures.
+/// The final state of a part: its kernel objects 1 to 12, its medium, its configuration and its failures.
 #[tactic(auto, unfolding(crate::specs::Ends::end_of))]
 pub fn end_of(alloc: Global, part: &Part) -> Result<PartEnd, NoMemory>
     ensures { IfOk result (λ end. end ≡ end_of part.now.state) }

@@ -1,4 +1,4 @@
-//! What a whole run leaves, by a schedule or by threads: a journal and an end of each part, and the threads' answers.
+//! What a whole run produces, by a schedule or by threads: a journal and a final state of each part, and the answers.
 #![tactic(auto)]
 
 mod ends;

@@ -1,7 +1,7 @@
-//! What a whole run leaves.
-use report_text::{PartEnds, Run};
+//! What a whole run produces.
+use run_results::{PartEnds, Run};
 
-/// What a whole run left: its journals, answers and totals, and what each part ends in.
+/// What a whole run produced: its journals, answers and totals, and the final state of each part.
 #[derive(Drop)]
 pub struct WholeRun {
     pub run: Run,

@@ -1,5 +1,5 @@
--- The choices of a simulation: each is its part's step, and an invocation is the next operation of its thread; and
--- where there is none no actor has a step.
+-- The choices of a simulation: each is a step of its part, and an invocation is its thread's next operation. If there
+-- is no choice, no actor has a step.
 use Rattle.std.proofs.Common.{◌≡◌, ℕ, zero, suc, ◌+◌, true, Option, Some, None, List, [], ◌∷◌, length, slice_get, refl, sym, ap, ◌∙◌, subst, arith}
 use Rattle.std.specs.List.{AllByRecursion}
 use Rattle.nook_data.specs.declared.calls.Op.{Op}
@@ -15,7 +15,7 @@ use Rattle.part_defs.specs.Steps.{enabled}
 use Rattle.part_defs.proofs.NextSteps.{if_enabled_case, next_for_case}
 use Rattle.nook_data.proofs.Options.{none_is_some, same_inside}
 
--- the thread waits nowhere, and the operation is its next
+-- the thread has no open call, and the operation is its next
 pub record IsNext (threads : List ThreadState) (thread part : ℕ) (o : Op) : Type 0 where
   pub t : ThreadState
   pub more : List (ℕ × Op)
@@ -123,13 +123,13 @@ choices_good s =
     plus : (k : ℕ) → k ≡ 0 + k
     plus k = omega arith
 
--- ---- where no actor has a step
+-- ---- no actor has a step
 
 with_none : (actor part : ℕ) (o : Option Step) (choices : List Choice) → with_choice actor part o choices ≡ [] → (o ≡ None) × (choices ≡ [])
 with_none actor part None choices h = (refl, h)
 with_none actor part (Some s) choices h = cc
 
--- a thread has none
+-- a thread has no step
 abbrev pub HasNoStep : List RunningPart → ℕ → List (ℕ × Op) → Option Waiting → Type 0
 HasNoStep parts thread [] None = Unit {0}
 HasNoStep parts thread ((part, o) ∷ rest) None = invocation thread o (slice_get parts part) ≡ None
@@ -172,7 +172,7 @@ parts_none actor part (x ∷ seats) h (suc k) seat e =
     let arrivals = (with_none actor part (next_recovery x.run.state) _ h).1 in
     parts_none (actor + 2) (part + 1) seats (with_none (actor + 1) part (arrival x.run x.coming) _ arrivals).1 k seat e
 
--- no arrival is left in any part
+-- no part has an arrival left
 pub arrivals_none : (actor part : ℕ) (seats : List RunningPart) → part_choices actor part seats ≡ []
     → (k : ℕ) (seat : RunningPart) → slice_get seats k ≡ Some seat → arrival seat.run seat.coming ≡ None
 arrivals_none actor part [] h k seat e = none_is_some e

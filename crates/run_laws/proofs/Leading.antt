@@ -1,4 +1,4 @@
--- What the events of a section lead to.
+-- The section to which events lead.
 use Rattle.std.proofs.Common.{◌≡◌, ℕ, List, [], ◌∷◌, ◌++◌, refl, sym, ap, ◌∙◌, append_assoc, append-nil}
 use Rattle.promise_defs.specs.Contract.{first_break}
 use Rattle.promise_defs.specs.Losses.{losses}
@@ -11,7 +11,7 @@ use Rattle.nook_data.specs.declared.scenario.ThreadSpec.{ThreadSpec}
 use Rattle.run_laws.specs.Audit.{Section, opening_section, section_after, section_end}
 use Rattle.run_laws.specs.Fitting.{FitsFrom, section_from}
 
--- a section's journal has the events, and its part is where they lead
+-- the events follow in the section's journal, and its part is in the state to which they lead
 pub record IsLed (s : Section) (events : List Event) (t : Section) : Type 0 where
   pub spec : t.spec ≡ s.spec
   pub journal : t.seat.run.journal ≡ s.seat.run.journal ++ events
@@ -30,15 +30,15 @@ section_led s (e ∷ events) h =
       state = led.state;
     }
 
--- the lines behind the events of a whole section
-pub section_end_is : (threads : List ThreadSpec) (place : ℕ) (spec : PartSpec) (journal : List Event)
-    → FitsFrom (opening_section threads place spec) journal
-    → section_end (section_from (opening_section threads place spec) journal)
-    ≡ final_lines spec.class journal (losses journal) (first_break spec.class spec.blocks journal) (state_from (opening_section threads place spec).seat.run.state journal)
+-- the lines after the events of a whole section
+pub section_end_is : (threads : List ThreadSpec) (index : ℕ) (spec : PartSpec) (journal : List Event)
+    → FitsFrom (opening_section threads index spec) journal
+    → section_end (section_from (opening_section threads index spec) journal)
+    ≡ final_lines spec.class journal (losses journal) (first_break spec.class spec.blocks journal) (state_from (opening_section threads index spec).seat.run.state journal)
 unfolding section_end
-section_end_is threads place spec journal h =
-    let end : Section = section_from (opening_section threads place spec) journal in
-    let led : IsLed (opening_section threads place spec) journal end = section_led (opening_section threads place spec) journal h in
+section_end_is threads index spec journal h =
+    let end : Section = section_from (opening_section threads index spec) journal in
+    let led : IsLed (opening_section threads index spec) journal end = section_led (opening_section threads index spec) journal h in
     ap (λ (x : PartSpec). final_lines x.class end.seat.run.journal (losses end.seat.run.journal) (first_break x.class x.blocks end.seat.run.journal) end.seat.run.state) led.spec
     ∙ ap (λ (xs : List Event). final_lines spec.class xs (losses xs) (first_break spec.class spec.blocks xs) end.seat.run.state) led.journal
     ∙ ap (λ (p : PartState). final_lines spec.class journal (losses journal) (first_break spec.class spec.blocks journal) p) led.state

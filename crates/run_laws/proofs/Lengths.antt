@@ -1,4 +1,4 @@
--- The numbers of frames that a report tells are the lengths of what is there.
+-- The numbers of frames that a report prints are the lengths of what they count.
 use Rattle.std.proofs.Common.{◌≡◌, ◌∙◌, ◌-◌, ℕ, Bool, List, [], ◌∷◌, ◌++◌, fold, length, length-append, refl, sym, ap, subst, arith}
 use Rattle.machine_defs.specs.Devices.{opening_device}
 use Rattle.nook_data.specs.Classes.{defaults_of, same_class}
@@ -14,7 +14,7 @@ use Rattle.part_defs.specs.Domain.{opening_domain}
 use Rattle.part_defs.specs.Runs.{state_of}
 use Rattle.part_defs.specs.Steps.{opening}
 use Rattle.part_laws.specs.ActsOn.{Dev, dev_of}
-use Rattle.part_laws.specs.Balance.{Balance, Balanced, held_at, tally}
+use Rattle.part_laws.specs.Balance.{Balance, Balanced, held_at, frame_counts}
 use Rattle.part_laws.specs.Counts.{Counts, count_event, counted_losses, no_counts}
 use Rattle.part_laws.specs.Orderly.{IsOrderlyFrom, flags_after}
 use Rattle.part_laws.specs.Recovery.{IsKeptRun}
@@ -28,7 +28,7 @@ use Rattle.part_laws.proofs.Picked.{AreShut}
 use Rattle.part_laws.proofs.Recovered.{IsWatchedRun, recovered}
 use Rattle.promise_defs.specs.Blocks.{blank_blocks}
 use Rattle.promise_defs.specs.Contract.{Known, known_after, known_first}
-use Rattle.run_laws.specs.Lengths.{TellsLengths, in_hands}
+use Rattle.run_laws.specs.Lengths.{ReportsLengths, in_hands}
 
 watched : (spec : PartSpec) (journal : List Event) → IsKeptRun spec journal → IsWatchedRun spec journal
 watched spec journal h = record
@@ -76,7 +76,7 @@ known_rest spec journal h =
     ∙ (ap (λ (w : Watch). length w.popped - length w.handed)
     (ap (λ (w : Watch). fold sees w journal) (sym (opening_watch spec)) ∙ (recovered spec journal h).seen) ∙ all_but past.handed past.rest)
 
--- between Reset and Load the driver has none
+-- between Reset and Load the driver has no frame
 held_is : (m : Mode) (k : Known) (rest : List (List ℕ)) → length k.popped - length k.handed ≡ length rest
     → held_at (stage_of m) rest ≡ in_hands m k
 held_is mode.Running k rest e = sym e
@@ -101,10 +101,10 @@ held_is (mode.Recovering stage.Resume) k rest e = sym e
 -- ---- the balance
 
 opening_balance : (spec : PartSpec)
-    → Balance (length (view_of (opening spec)).dev.ring) (length (view_of (opening spec)).queue) (held_at (stage_of (view_of (opening spec)).mode) []) (tally no_counts)
+    → Balance (length (view_of (opening spec)).dev.ring) (length (view_of (opening spec)).queue) (held_at (stage_of (view_of (opening spec)).mode) []) (frame_counts no_counts)
 unfolding opening opening_domain
 opening_balance spec =
-    subst (λ (d : Dev). Balance (length d.ring) 0 0 (tally no_counts))
+    subst (λ (d : Dev). Balance (length d.ring) 0 0 (frame_counts no_counts))
     (sym (opening_dev spec.class spec.blocks spec.bad (defaults_of spec.class)))
     (record { arrived = refl; kept = refl; taken = refl; driver = refl; flow = refl })
 
@@ -112,20 +112,20 @@ balanced : (spec : PartSpec) (journal : List Event) (h : IsWatchedRun spec journ
     → Balanced (view_of (state_of spec journal)) (recovered spec journal h).after (fold count_event no_counts journal)
 balanced spec journal h = (recovered spec journal h).counted no_counts (opening_balance spec)
 
-tells : (spec : PartSpec) (journal : List Event) → IsWatchedRun spec journal → TellsLengths spec journal
+reports : (spec : PartSpec) (journal : List Event) → IsWatchedRun spec journal → ReportsLengths spec journal
 unfolding counted_losses
-tells spec journal h =
+reports spec journal h =
     let n : Counts = fold count_event no_counts journal in
-    let told = same_losses spec journal h.run in
+    let reported = same_losses spec journal h.run in
     let b = balanced spec journal h in
     record {
-      queued = ap (λ l. l.queued) told ∙ omega (arith, b.taken);
-      ring = ap (λ l. l.ring) told ∙ omega (arith, b.kept);
-      driver = ap (λ l. l.driver) told
+      queued = ap (λ l. l.queued) reported ∙ omega (arith, b.taken);
+      ring = ap (λ l. l.ring) reported ∙ omega (arith, b.kept);
+      driver = ap (λ l. l.driver) reported
           ∙ (omega (arith, b.driver)
           ∙ held_is (state_of spec journal).mode (fold known_after (known_first spec.class spec.blocks) journal) (recovered spec journal h).after.rest
           (known_rest spec journal h));
     }
 
-pub tells_lengths : (spec : PartSpec) (journal : List Event) → IsKeptRun spec journal → TellsLengths spec journal
-tells_lengths spec journal h = tells spec journal (watched spec journal h)
+pub reports_lengths : (spec : PartSpec) (journal : List Event) → IsKeptRun spec journal → ReportsLengths spec journal
+reports_lengths spec journal h = reports spec journal (watched spec journal h)

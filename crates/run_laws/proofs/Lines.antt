@@ -1,6 +1,6 @@
--- The lines of a text: they make the text, and a text that ends in a line feed keeps its lines whatever stands behind it.
+-- The lines of a text: joined they are the text, and a text that ends in a line feed keeps its lines if more follows.
 use Rattle.std.proofs.Common.{◌≡◌, ℕ, ◌==◌, Bool, true, ◌&&◌, not, List, [], ◌∷◌, ◌++◌, refl, sym, ap, ◌∙◌, subst, append-nil, eqb-true, true≢false}
-use Rattle.part_laws.proofs.Places.{split}
+use Rattle.part_laws.proofs.Indices.{split}
 use Rattle.run_laws.specs.Audit.{is_ended, lines_of, with_byte}
 
 -- ---- the text of lines
@@ -13,7 +13,7 @@ text_with_byte : (byte : ℕ) (lines : List (List ℕ)) → text_of (with_byte b
 text_with_byte byte [] = refl
 text_with_byte byte (line ∷ lines) = refl
 
--- the lines of a text make the text
+-- the lines of a text, joined, are the text
 pub text_of_lines : (text : List ℕ) → text_of (lines_of text) ≡ text
 unfolding lines_of
 text_of_lines [] = refl
@@ -28,7 +28,7 @@ abbrev pub has_no_feed : List ℕ → Bool
 has_no_feed [] = true
 has_no_feed (byte ∷ bytes) = not (byte == 10) && has_no_feed bytes
 
--- the first line, where it has no line feed but its last byte
+-- the first line, if its only line feed is its last byte
 pub first_line : (body rest : List ℕ) → has_no_feed body ≡ true → lines_of (body ++ 10 ∷ rest) ≡ (body ++ 10 ∷ []) ∷ lines_of rest
 unfolding lines_of
 first_line [] rest h = refl
@@ -42,11 +42,11 @@ abbrev pub is_whole : List ℕ → Bool
 is_whole [] = true
 is_whole (byte ∷ bytes) = is_ended (byte ∷ bytes)
 
-pub ended_behind : (front back : List ℕ) → is_ended back ≡ true → is_ended (front ++ back) ≡ true
-ended_behind [] back h = h
-ended_behind (byte ∷ []) [] h = absurd (true≢false (sym h))
-ended_behind (byte ∷ []) (b ∷ back) h = h
-ended_behind (byte ∷ next ∷ front) back h = ended_behind (next ∷ front) back h
+pub ended_after : (front back : List ℕ) → is_ended back ≡ true → is_ended (front ++ back) ≡ true
+ended_after [] back h = h
+ended_after (byte ∷ []) [] h = absurd (true≢false (sym h))
+ended_after (byte ∷ []) (b ∷ back) h = h
+ended_after (byte ∷ next ∷ front) back h = ended_after (next ∷ front) back h
 
 pub ended_whole : (text : List ℕ) → is_ended text ≡ true → is_whole text ≡ true
 ended_whole [] h = absurd (true≢false (sym h))
@@ -54,9 +54,9 @@ ended_whole (byte ∷ bytes) h = h
 
 pub whole_both : (front back : List ℕ) → is_whole front ≡ true → is_whole back ≡ true → is_whole (front ++ back) ≡ true
 whole_both front [] f b = subst (λ text. is_whole text ≡ true) (sym (append-nil front)) f
-whole_both front (byte ∷ back) f b = ended_whole (front ++ byte ∷ back) (ended_behind front (byte ∷ back) b)
+whole_both front (byte ∷ back) f b = ended_whole (front ++ byte ∷ back) (ended_after front (byte ∷ back) b)
 
--- each of some lines ends in a line feed
+-- each of these lines ends in a line feed
 abbrev pub AreEnded : List (List ℕ) → Type 0
 AreEnded [] = Unit {0}
 AreEnded (line ∷ lines) = (is_ended line ≡ true) × AreEnded lines
@@ -65,7 +65,7 @@ ended_with_byte : (byte : ℕ) (line : List ℕ) → is_ended line ≡ true → 
 ended_with_byte byte [] h = absurd (true≢false (sym h))
 ended_with_byte byte (next ∷ line) h = h
 
--- the lines of a whole text with something behind it
+-- the lines of a whole text that is followed by more
 record KeepsLines (text : List ℕ) : Type 0 where
   first : List ℕ
   others : List (List ℕ)

@@ -15,7 +15,7 @@ use Rattle.nook_data.specs.declared.calls.Op.{Op}
 use Rattle.nook_data.specs.declared.steps.Step.{Step}
 use Rattle.nook_data.specs.declared.steps.Step.TheVariants as step
 use Rattle.part_laws.proofs.CrossingFit.{found_fits}
-use Rattle.part_laws.proofs.Places.{split}
+use Rattle.part_laws.proofs.Indices.{split}
 use Rattle.part_laws.proofs.RunsDetermined.{found_thread}
 use Rattle.part_laws.proofs.TiedSteps.{threads_of_fit}
 use Rattle.part_laws.specs.Fit.{IsFit}
@@ -48,7 +48,7 @@ fourth_word line a b c d more e = rw e refl
 
 -- ---- the words of each event's line
 
--- a number, and a text behind a blank
+-- a number, a blank and a text
 line_with : (n : ℕ) (e : Event) (text : List ℕ) → event_text e ++ 10 ∷ [] ≡ text → event_line n e ≡ decimal n ++ 32 ∷ text
 unfolding event_line
 line_with n e text is = ap (λ t. decimal n ++ 32 ∷ t) is
@@ -124,7 +124,7 @@ by_second s n e a b more is =
     named_by_words s (event_line n e)
     ∙ ap (λ w. named_by s w (word_at 2 (event_line n e)) (word_at 3 (event_line n e))) (second_word (event_line n e) a b more is)
 
--- the line of an event names the step that makes the event, where that is the next of its kind
+-- the line of an event names the step that makes the event, if that is the next of its kind
 pub step_is_named : (s : Section) (n : ℕ) (e : Event) → IsFit s.seat.run.state → enabled s.seat.run.state (step_of e) ≡ true → IsNext s (step_of e)
     → step_named s (event_line n e) ≡ Some (step_of e)
 step_is_named s n (event.Invoke call thread o a) f may next =

@@ -4,13 +4,13 @@ use Rattle.run_defs.specs.Simulation.{ThreadState}
 use Rattle.nook_data.specs.declared.calls.Op.{Op}
 use Rattle.nook_data.specs.declared.steps.Step.{Step}
 use Rattle.nook_data.specs.declared.steps.Step.TheVariants as step
-use Rattle.part_laws.proofs.Places.{split}
+use Rattle.part_laws.proofs.Indices.{split}
 use Rattle.run_laws.proofs.Naming.{named_by, named_by_words}
 use Rattle.run_laws.specs.Audit.{Section, arrival_of, context_in, if_burst, if_entered, if_invoked, invocation_by, step_named, word_at}
 use Rattle.run_laws.specs.Fitting.{IsNext}
 use Rattle.nook_data.proofs.Options.{none_is_some, same_inside}
 
--- an invocation by a thread is one of that thread
+-- an invocation by a thread has that thread's number
 is_invocation : (thread : ℕ) (q : Option ThreadState) (s : Step) → invocation_by thread q ≡ Some s → (o : Op) × (s ≡ step.Invoke thread o)
 is_invocation thread None s h = none_is_some h
 is_invocation thread (Some t) s h = by_rest t.rest h

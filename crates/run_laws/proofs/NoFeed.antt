@@ -39,7 +39,7 @@ plain (byte ∷ a) b h k =
 
 -- ---- numbers and words
 
--- a number, and what stands behind it
+-- a number, and what follows it
 number : (n : ℕ) (rest : List ℕ) → IsPlain rest → IsPlain (decimal n ++ rest)
 number n rest h = plain (decimal n) rest (decimal_no_feed n) h
 
@@ -144,7 +144,7 @@ released_plain (entry.Buffer context true) = number context (right_text true) re
 released_plain (entry.Buffer context false) = number context (right_text false) refl
 released_plain (entry.Registration live) = refl
 
--- ---- what may stand at the end of a line
+-- ---- how a line may end
 
 answer_tail_plain : (a : Option Answer) → IsPlain (answer_tail a)
 answer_tail_plain None = refl

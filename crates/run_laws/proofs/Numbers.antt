@@ -1,4 +1,4 @@
--- The number of a thread's open call after a step: an invocation gives it, and an answer takes it.
+-- The number of a thread's open call after a step: an invocation sets it, and an answer clears it.
 use Rattle.std.proofs.Common.{◌≡◌, ◌⊎◌, inl, inr, ℕ, ◌+◌, ◌<◌, ◌≤◌, ◌==◌, ◌&&◌, nat_lt, not, is_none, is_some, if◌then◌else◌, Bool, true, false, Option, Some, None, Result, Ok, Err, List, [], ◌∷◌, ◌++◌, map, filter, refl, sym, ap, ◌∙◌, subst, arith, true≢false}
 use Rattle.std.specs.List.{AllByRecursion}
 use Rattle.std.proofs.lemmas.Bool.{eqb-true, eq-eqb, ne_eqb}
@@ -47,12 +47,12 @@ abbrev pub number : ℕ → List CallEntry → Option ℕ
 number t [] = None
 number t (c ∷ calls) = if c.thread == t then Some c.call else number t calls
 
--- an answer to the call takes it
-abbrev pub told_number : (ℕ → Option Answer) → Option ℕ → Option ℕ
-told_number f None = None
-told_number f (Some call) = if is_some (f call) then None else Some call
+-- an answer to the call clears it
+abbrev pub pending_number : (ℕ → Option Answer) → Option ℕ → Option ℕ
+pending_number f None = None
+pending_number f (Some call) = if is_some (f call) then None else Some call
 
--- an invocation by the thread gives it
+-- an invocation by the thread sets it
 abbrev pub started_number : ℕ → Event → Option ℕ → Option ℕ
 started_number t (event.Invoke call thread o answer) w = if thread == t then Some call else w
 started_number t _ w = w
@@ -75,7 +75,7 @@ apart_none t c (d ∷ calls) all e =
     let other : (d.thread == t) ≡ false = ap (λ n. d.thread == n) (sym same) ∙ all.0 in
     rw other (apart_none t c calls all.1 e)
 
--- one call is open no more
+-- one call is no longer open
 removed : (t call : ℕ) (calls : List CallEntry) → AreApart calls → number t (filter (λ d. not (is_call call d)) calls) ≡ unless call (number t calls)
 removed t call [] apart = refl
 removed t call (c ∷ calls) apart = split (c.call == call)
@@ -86,20 +86,20 @@ removed t call (c ∷ calls) apart = split (c.call == call)
     (λ mine. rw (no, mine, no) refl)
     (λ other. rw (no, other) (removed t call calls apart.1)))
 
--- calls change and keep number and thread
+-- calls change, but keep their numbers and threads
 renamed : (f : CallEntry → CallEntry) (t : ℕ) (calls : List CallEntry) → ((c : CallEntry) → (f c).call ≡ c.call) → ((c : CallEntry) → (f c).thread ≡ c.thread)
     → number t (map f calls) ≡ number t calls
 renamed f t [] a b = refl
 renamed f t (c ∷ calls) a b = rw (b c, a c, renamed f t calls a b) refl
 
--- one call more
+-- one more call
 pushed : (t : ℕ) (calls : List CallEntry) (c : CallEntry) → number t (calls ++ c ∷ []) ≡ or_else (number t calls) (if c.thread == t then Some c.call else None)
 pushed t [] c = refl
 pushed t (d ∷ calls) c = split (d.thread == t)
     (λ mine. rw mine refl)
     (λ other. rw other (pushed t calls c))
 
--- numbers are those that were given
+-- an open call has one of the numbers assigned so far
 above : (t low count m : ℕ) (calls : List CallEntry) → IsRising low count calls → number t calls ≡ Some m → (low < m) × (m ≤ count)
 above t low count m [] r h = none_is_some h
 above t low count m (c ∷ calls) r h = split (c.thread == t)
@@ -133,14 +133,14 @@ found_none t (d ∷ calls) h = split (d.thread == t)
 
 -- ---- nothing is answered
 
-silent : (f : ℕ → Option Answer) (w : Option ℕ) → ((call : ℕ) → f call ≡ None) → w ≡ told_number f w
+silent : (f : ℕ → Option Answer) (w : Option ℕ) → ((call : ℕ) → f call ≡ None) → w ≡ pending_number f w
 silent f None h = refl
 silent f (Some call) h = rw (h call) refl
 
 -- one call is answered
-one_told : (c : ℕ) (a : Answer) (w : Option ℕ) → unless c w ≡ told_number (λ call. answer_among call (one_answer c (Some a))) w
-one_told c a None = refl
-one_told c a (Some m) = split (c == m)
+one_reported : (c : ℕ) (a : Answer) (w : Option ℕ) → unless c w ≡ pending_number (λ call. answer_among call (one_answer c (Some a))) w
+one_reported c a None = refl
+one_reported c a (Some m) = split (c == m)
     (λ e. let s : m ≡ c = sym (eqb-true c m e) in rw (e, eq-eqb m c s) refl)
     (λ e. rw (e, ne_eqb m c (λ s. true≢false (sym (eq-eqb c m (sym s)) ∙ e))) refl)
 
@@ -148,7 +148,7 @@ one_told c a (Some m) = split (c == m)
 
 invoked_number : (p : PartState) (t thread : ℕ) (o : Op) (a : Option Answer) (queue : List (List ℕ)) → IsTied p → number thread p.log.pending ≡ None
     → number t (invoked_with p thread o a queue).state.log.pending
-    ≡ told_number (λ call. answer_among call (one_answer (p.log.count + 1) a)) (if thread == t then Some (p.log.count + 1) else number t p.log.pending)
+    ≡ pending_number (λ call. answer_among call (one_answer (p.log.count + 1) a)) (if thread == t then Some (p.log.count + 1) else number t p.log.pending)
 unfolding with_call with_answered_call
 invoked_number p t thread o None queue tied free =
     pushed t p.log.pending (new_entry (p.log.count + 1) thread o)
@@ -163,7 +163,7 @@ invoked_number p t thread o (Some a) queue tied free = split (thread == t)
     (λ mine. rw (mine, eq-eqb (p.log.count + 1) (p.log.count + 1) refl) (ap (λ n. number n p.log.pending) (sym (eqb-true thread t mine)) ∙ free))
     (λ other. rw other (old (number t p.log.pending) refl))
   where
-    old : (w : Option ℕ) → number t p.log.pending ≡ w → w ≡ told_number (λ call. answer_among call (one_answer (p.log.count + 1) (Some a))) w
+    old : (w : Option ℕ) → number t p.log.pending ≡ w → w ≡ pending_number (λ call. answer_among call (one_answer (p.log.count + 1) (Some a))) w
     old None e = refl
     old (Some m) e =
         let low : m ≤ p.log.count = (above t 0 p.log.count m p.log.pending tied.rising e).1 in
@@ -173,7 +173,7 @@ invoked_number p t thread o (Some a) queue tied free = split (thread == t)
         past m l s = omega arith
 
 abbrev pub Says : PartState → ℕ → Stepped → Type 0
-Says p t turn = number t turn.state.log.pending ≡ told_number (λ call. answer_at call turn.event) (started_number t turn.event (number t p.log.pending))
+Says p t turn = number t turn.state.log.pending ≡ pending_number (λ call. answer_at call turn.event) (started_number t turn.event (number t p.log.pending))
 
 invoke_says : (p : PartState) (t thread : ℕ) (o : Op) → IsTied p → number thread p.log.pending ≡ None → Says p t (after_invoke thread o p)
 unfolding after_invoke
@@ -190,9 +190,9 @@ unfolding after_enter after_answering after_entering
 enter_says p t thread tied = by_call (call_of_thread thread p.log.pending)
   where
     by_answer : (c : CallEntry) (a : Admit) → Says p t (after_admit p c a)
-    by_answer c (admits.Reply a) = removed t c.call p.log.pending tied.apart ∙ one_told c.call a (number t p.log.pending)
-    by_answer c admits.TakeFrame = removed t c.call p.log.pending tied.apart ∙ one_told c.call _ (number t p.log.pending)
-    by_answer c (admits.Enter place) =
+    by_answer c (admits.Reply a) = removed t c.call p.log.pending tied.apart ∙ one_reported c.call a (number t p.log.pending)
+    by_answer c admits.TakeFrame = removed t c.call p.log.pending tied.apart ∙ one_reported c.call _ (number t p.log.pending)
+    by_answer c (admits.Enter index) =
         renamed (change_entry c.call entered_call) t p.log.pending (λ d. split (is_call c.call d) (λ e. rw e refl) (λ e. rw e refl))
         (λ d. split (is_call c.call d) (λ e. rw e refl) (λ e. rw e refl))
         ∙ silent _ (number t p.log.pending) (λ call. no_call call c.call)
@@ -204,18 +204,18 @@ enter_says p t thread tied = by_call (call_of_thread thread p.log.pending)
 -- ---- Burst
 
 burst_by : (context : ℕ) (p q : PartState) (t : ℕ) (x : Crossed) → IsTied p → q.log ≡ p.log → Shows context q x
-    → number t x.state.log.pending ≡ told_number (λ call. answer_among call (one_answer (served_number context p) x.answer)) (number t p.log.pending)
+    → number t x.state.log.pending ≡ pending_number (λ call. answer_among call (one_answer (served_number context p) x.answer)) (number t p.log.pending)
 burst_by context p q t x tied same (inl h) =
     ap (number t) (h.1 ∙ ap (λ l. l.pending) same)
     ∙ silent (λ call. answer_among call (one_answer (served_number context p) None)) (number t p.log.pending) (λ call. no_call call (served_number context p))
-    ∙ ap (λ a. told_number (λ call. answer_among call (one_answer (served_number context p) a)) (number t p.log.pending)) (sym h.0)
+    ∙ ap (λ a. pending_number (λ call. answer_among call (one_answer (served_number context p) a)) (number t p.log.pending)) (sym h.0)
 burst_by context p q t x tied same (inr h) =
     let found : call_of_thread context p.log.pending ≡ Some h.c = ap (λ l. call_of_thread context l.pending) (sym same) ∙ h.found in
     let served : served_number context p ≡ h.c.call = rw (h.other, found) refl in
     ap (number t) (h.closed ∙ ap (λ l. filter (λ d. not (is_call h.c.call d)) l.pending) same)
-    ∙ removed t h.c.call p.log.pending tied.apart ∙ one_told h.c.call h.a (number t p.log.pending)
-    ∙ ap (λ n. told_number (λ call. answer_among call (one_answer n (Some h.a))) (number t p.log.pending)) (sym served)
-    ∙ ap (λ a. told_number (λ call. answer_among call (one_answer (served_number context p) a)) (number t p.log.pending)) (sym h.told)
+    ∙ removed t h.c.call p.log.pending tied.apart ∙ one_reported h.c.call h.a (number t p.log.pending)
+    ∙ ap (λ n. pending_number (λ call. answer_among call (one_answer n (Some h.a))) (number t p.log.pending)) (sym served)
+    ∙ ap (λ a. pending_number (λ call. answer_among call (one_answer (served_number context p) a)) (number t p.log.pending)) (sym h.reported)
 
 burst_says : (p : PartState) (t context : ℕ) → IsTied p → Says p t (burst_stepped context p)
 unfolding burst_stepped
@@ -226,36 +226,36 @@ burst_says p t context tied =
 
 -- ---- Stage
 
--- an answer to another number
-told_past : (k : ℕ) (a : Answer) (answers : List (ℕ × Answer)) (w : Option ℕ) → ((m : ℕ) → w ≡ Some m → k < m)
-    → told_number (λ call. answer_among call answers) w ≡ told_number (λ call. answer_among call ((k, a) ∷ answers)) w
-told_past k a answers None h = refl
-told_past k a answers (Some m) h = rw (ne_eqb k m (λ e. apart k m (h m refl) e)) refl
+-- an answer to a call with another number
+reported_past : (k : ℕ) (a : Answer) (answers : List (ℕ × Answer)) (w : Option ℕ) → ((m : ℕ) → w ≡ Some m → k < m)
+    → pending_number (λ call. answer_among call answers) w ≡ pending_number (λ call. answer_among call ((k, a) ∷ answers)) w
+reported_past k a answers None h = refl
+reported_past k a answers (Some m) h = rw (ne_eqb k m (λ e. apart k m (h m refl) e)) refl
   where
     apart : (k m : ℕ) → k < m → k ≡ m → ⊥
     apart k m l e = omega arith
 
 stop_says : (t low count : ℕ) (calls : List CallEntry) (config : List ℕ) (holder : Option ℕ) (queue : List (List ℕ)) → IsRising low count calls → AreApart calls
-    → number t (filter (λ c. is_held c.op) calls) ≡ told_number (λ call. answer_among call (stop_answers calls config holder queue)) (number t calls)
+    → number t (filter (λ c. is_held c.op) calls) ≡ pending_number (λ call. answer_among call (stop_answers calls config holder queue)) (number t calls)
 stop_says t low count [] config holder queue r apart = refl
 stop_says t low count (c ∷ calls) config holder queue r apart =
     by_shadow (shadow_says c.op c.thread config holder queue) (stop_says t c.call count calls config holder (queue_after c.op queue) r.2 apart.1)
   where
-    not_again : (c.thread == t) ≡ true → number t (filter (λ c. is_held c.op) calls) ≡ told_number (λ call. answer_among call (stop_answers calls config holder (queue_after c.op queue))) (number t calls)
+    not_again : (c.thread == t) ≡ true → number t (filter (λ c. is_held c.op) calls) ≡ pending_number (λ call. answer_among call (stop_answers calls config holder (queue_after c.op queue))) (number t calls)
         → number t (filter (λ c. is_held c.op) calls) ≡ None
-    not_again mine more = more ∙ ap (told_number _) (apart_none t c calls apart.0 mine)
+    not_again mine more = more ∙ ap (pending_number _) (apart_none t c calls apart.0 mine)
 
     by_shadow : ((is_held c.op ≡ true) × (shadow_answer c.op c.thread config holder stage.Stop queue ≡ None))
         ⊎ ((is_held c.op ≡ false) × ((a : Answer) × (shadow_answer c.op c.thread config holder stage.Stop queue ≡ Some a)))
-        → number t (filter (λ c. is_held c.op) calls) ≡ told_number (λ call. answer_among call (stop_answers calls config holder (queue_after c.op queue))) (number t calls)
-        → number t (filter (λ c. is_held c.op) (c ∷ calls)) ≡ told_number (λ call. answer_among call (stop_answers (c ∷ calls) config holder queue)) (number t (c ∷ calls))
+        → number t (filter (λ c. is_held c.op) calls) ≡ pending_number (λ call. answer_among call (stop_answers calls config holder (queue_after c.op queue))) (number t calls)
+        → number t (filter (λ c. is_held c.op) (c ∷ calls)) ≡ pending_number (λ call. answer_among call (stop_answers (c ∷ calls) config holder queue)) (number t (c ∷ calls))
     by_shadow (inl h) more = split (c.thread == t)
         (λ mine. rw (h.0, h.1, mine, none_below c.call c.call count calls config holder (queue_after c.op queue) r.2 (omega arith)) refl)
         (λ other. rw (h.0, h.1, other) more)
     by_shadow (inr h) more = split (c.thread == t)
         (λ mine. rw (h.0, h.1.1, mine, eq-eqb c.call c.call refl) (not_again mine more))
         (λ other. rw (h.0, h.1.1, other)
-        (more ∙ told_past c.call h.1.0 (stop_answers calls config holder (queue_after c.op queue)) (number t calls) (λ m e. (above t c.call count m calls r.2 e).0)))
+        (more ∙ reported_past c.call h.1.0 (stop_answers calls config holder (queue_after c.op queue)) (number t calls) (λ m e. (above t c.call count m calls r.2 e).0)))
 
 gone_found : (failures t m : ℕ) (calls : List CallEntry) → number t calls ≡ Some m → is_some (answer_among m (gone_answers failures calls)) ≡ true
 gone_found failures t m [] h = none_is_some h
@@ -265,11 +265,11 @@ gone_found failures t m (c ∷ calls) h = split (c.call == m)
     (λ mine. absurd (true≢false (sym (eq-eqb c.call m (same_inside (rw mine at h))) ∙ no)))
     (λ other. rw no (gone_found failures t m calls (rw other at h))))
 
-gone_says : (failures t : ℕ) (calls : List CallEntry) (w : Option ℕ) → number t calls ≡ w → None ≡ told_number (λ call. answer_among call (gone_answers failures calls)) w
+gone_says : (failures t : ℕ) (calls : List CallEntry) (w : Option ℕ) → number t calls ≡ w → None ≡ pending_number (λ call. answer_among call (gone_answers failures calls)) w
 gone_says failures t calls None h = refl
 gone_says failures t calls (Some m) h = rw (gone_found failures t m calls h) refl
 
-quiet : (p : PartState) (t : ℕ) → number t p.log.pending ≡ told_number (λ call. None) (number t p.log.pending)
+quiet : (p : PartState) (t : ℕ) → number t p.log.pending ≡ pending_number (λ call. None) (number t p.log.pending)
 quiet p t = silent (λ call. None) (number t p.log.pending) (λ call. refl)
 
 stage_says : (p : PartState) (t : ℕ) → IsTied p → Says p t (stage_stepped p)

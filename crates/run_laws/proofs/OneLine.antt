@@ -11,19 +11,19 @@ use Rattle.nook_data.specs.declared.classes.Class.{Class}
 use Rattle.nook_data.specs.declared.classes.Class.TheVariants as class
 use Rattle.nook_data.specs.declared.steps.Event.{Event}
 use Rattle.nook_data.specs.declared.scenario.PartSpec.{PartSpec}
-use Rattle.run_laws.proofs.Lines.{ended_behind, first_line, has_no_feed}
+use Rattle.run_laws.proofs.Lines.{ended_after, first_line, has_no_feed}
 use Rattle.run_laws.proofs.NoFeed.{IsPlain, event_plain, plain}
 use Rattle.run_laws.proofs.Words.{decimal_no_feed}
 use Rattle.run_laws.specs.Audit.{is_ended, lines_of}
 
--- a text with one line feed, its last byte
+-- a text whose only line feed is its last byte
 pub record IsOneLine (line : List ℕ) : Type 0 where
   pub body : List ℕ
   pub is : line ≡ body ++ 10 ∷ []
   pub no_feed : IsPlain body
 
 pub one_line_ended : (line : List ℕ) → IsOneLine line → is_ended line ≡ true
-one_line_ended line o = subst (λ text. is_ended text ≡ true) (sym o.is) (ended_behind o.body (10 ∷ []) refl)
+one_line_ended line o = subst (λ text. is_ended text ≡ true) (sym o.is) (ended_after o.body (10 ∷ []) refl)
 
 -- it is the first line of a text that begins with it
 pub one_line_first : (line rest : List ℕ) → IsOneLine line → lines_of (line ++ rest) ≡ line ∷ lines_of rest
@@ -64,12 +64,12 @@ class_plain class.Sound = refl
 six_pieces : (a b c d e f feed : List ℕ) → a ++ (b ++ (c ++ (d ++ (e ++ (f ++ feed))))) ≡ (a ++ (b ++ (c ++ (d ++ (e ++ f))))) ++ feed
 six_pieces a b c d e f feed = simp append_assoc
 
-pub part_one_line : (place : ℕ) (spec : PartSpec) → is_name spec.name ≡ true → IsOneLine (part_line place spec)
-part_one_line place spec h = record {
-  body = with_number (codes "part ") place ++ (codes " " ++ (spec.name ++ (codes " " ++ (class_text spec.class ++ with_number (codes " limit ") spec.limit))));
-  is = six_pieces (with_number (codes "part ") place) (codes " ") spec.name (codes " ") (class_text spec.class) (with_number (codes " limit ") spec.limit) (10 ∷ []);
+pub part_one_line : (index : ℕ) (spec : PartSpec) → is_name spec.name ≡ true → IsOneLine (part_line index spec)
+part_one_line index spec h = record {
+  body = with_number (codes "part ") index ++ (codes " " ++ (spec.name ++ (codes " " ++ (class_text spec.class ++ with_number (codes " limit ") spec.limit))));
+  is = six_pieces (with_number (codes "part ") index) (codes " ") spec.name (codes " ") (class_text spec.class) (with_number (codes " limit ") spec.limit) (10 ∷ []);
   no_feed =
-      plain (decimal place) (codes " " ++ (spec.name ++ (codes " " ++ (class_text spec.class ++ with_number (codes " limit ") spec.limit)))) (decimal_no_feed place)
+      plain (decimal index) (codes " " ++ (spec.name ++ (codes " " ++ (class_text spec.class ++ with_number (codes " limit ") spec.limit)))) (decimal_no_feed index)
       (plain spec.name (codes " " ++ (class_text spec.class ++ with_number (codes " limit ") spec.limit)) (named_plain spec.name h)
       (plain (class_text spec.class) (with_number (codes " limit ") spec.limit) (class_plain spec.class) (decimal_no_feed spec.limit)));
 }

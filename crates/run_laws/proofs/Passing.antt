@@ -1,4 +1,4 @@
--- Every line of a report of journals that fit passes.
+-- In a report of journals that fit, every line passes.
 use Rattle.std.proofs.Common.{◌≡◌, ℕ, suc, ◌+◌, Bool, true, false, None, Some, List, [], ◌∷◌, ◌++◌, length, refl, sym, ap, ◌∙◌, subst, append_assoc, append-nil, length-append, arith, true≢false, eq-eqb, bytes_eq, if◌then◌else◌}
 use Rattle.std.proofs.lemmas.Bool.{and_from}
 use Rattle.std.proofs.lemmas.List.Elements.{recursion_from_All}
@@ -21,11 +21,11 @@ use Rattle.run_laws.proofs.Naming.{step_is_named}
 use Rattle.run_laws.proofs.OneLine.{event_one_line, one_line_ended, one_line_first, part_one_line}
 use Rattle.run_laws.proofs.Wholes.{last_lines_ended, section_end_ended, section_end_other}
 use Rattle.run_laws.proofs.Words.{decimal_numbered}
-use Rattle.run_laws.specs.Audit.{Auditing, Done, Section, after_event, after_line, after_step, audited, behind, done_of, first_unfit, is_complete, is_ended, is_line_of, is_next, is_numbered, last_lines, lines_of, opening_audit, opening_section, section_after, section_end, with_due, with_section}
+use Rattle.run_laws.specs.Audit.{Auditing, Done, Section, after_event, after_line, after_step, audited, rest_after, done_of, first_unfit, is_complete, is_ended, is_line_of, is_next, is_numbered, last_lines, lines_of, opening_audit, opening_section, section_after, section_end, with_due, with_section}
 use Rattle.run_laws.specs.Fitting.{AllFit, FitsFrom, IsNext, fitting_text, section_from, sections_of}
 
 module _ (scenario : Scenario) where
-  -- every line fits, whatever number the first has
+  -- every line fits, whatever the number of the first
   abbrev Passes : Auditing → List (List ℕ) → Type 0
   Passes a lines = (n : ℕ) → first_unfit scenario a n lines ≡ None
 
@@ -35,15 +35,15 @@ module _ (scenario : Scenario) where
 
   -- ---- lines that are due
 
-  behind_front : (line text : List ℕ) → behind line (line ++ text) ≡ Some text
-  behind_front [] text = refl
-  behind_front (byte ∷ line) text = rw (eq-eqb byte byte refl) (behind_front line text)
+  after_front : (line text : List ℕ) → rest_after line (line ++ text) ≡ Some text
+  after_front [] text = refl
+  after_front (byte ∷ line) text = rw (eq-eqb byte byte refl) (after_front line text)
 
   due_step : (a : Auditing) (line text : List ℕ) → is_ended line ≡ true
       → after_line scenario (record a { due = line ++ text }) line ≡ Some (record a { due = text })
   unfolding after_line
   due_step a [] text h = absurd (true≢false (sym h))
-  due_step a (byte ∷ line) text h = rw h (ap (with_due (record a { due = byte ∷ line ++ text })) (behind_front (byte ∷ line) text))
+  due_step a (byte ∷ line) text h = rw h (ap (with_due (record a { due = byte ∷ line ++ text })) (after_front (byte ∷ line) text))
 
   pass_due : (a : Auditing) (lines more : List (List ℕ)) → AreEnded lines → Passes (record a { due = [] }) more
       → Passes (record a { due = text_of lines }) (lines ++ more)
@@ -68,16 +68,16 @@ module _ (scenario : Scenario) where
           let are : AreEnded (line ∷ others) = subst AreEnded e (whole_ended text (ended_whole text ended)) in
           let is : text ≡ line ++ text_of others = sym (text_of_lines text) ∙ ap text_of e in
           pass_line a (record b { due = text_of others }) line (others ++ lines_of rest)
-          (begins line (text_of others) is are.0 ∙ ap (λ t. with_due b (behind line t)) is ∙ ap (with_due b) (behind_front line (text_of others)))
+          (begins line (text_of others) is are.0 ∙ ap (λ t. with_due b (rest_after line t)) is ∙ ap (with_due b) (after_front line (text_of others)))
           (pass_due b others (lines_of rest) are.1 h)
 
   -- ---- a section
 
   abbrev within : List Done → Section → List PartSpec → Auditing
-  within done s coming = record { sections = done; standing = Some s; due = []; coming = coming; last = false }
+  within done s coming = record { sections = done; current = Some s; due = []; coming = coming; last = false }
 
   abbrev between : List Done → List PartSpec → Auditing
-  between done coming = record { sections = done; standing = None; due = []; coming = coming; last = false }
+  between done coming = record { sections = done; current = None; due = []; coming = coming; last = false }
 
   unnumbered : (text line others : List ℕ) → text ≡ line ++ others → is_ended line ≡ true → is_numbered text ≡ false → is_numbered line ≡ false
   unnumbered text [] others e h k = absurd (true≢false (sym h))
@@ -126,53 +126,53 @@ module _ (scenario : Scenario) where
   pass_events done s coming [] n rest f at h k = pass_end done s coming rest h k
   pass_events done s coming (e ∷ events) n rest f at h k =
       let t : Section = section_after s (step_of e) in
-      let behind_it : List ℕ = section_end (section_from t events) ++ rest in
+      let after_it : List ℕ = section_end (section_from t events) ++ rest in
       let one : after_line scenario (within done s coming) (event_line n e) ≡ Some (within done t coming) =
       ap (λ (m : ℕ). after_line scenario (within done s coming) (event_line m e)) at ∙ event_step done s coming e f h.0 h.1 h.2 in
       let longer : suc n ≡ suc (length (s.seat.run.journal ++ event_of s.seat.run.state (step_of e) ∷ [])) =
       ap suc (at ∙ grown (length s.seat.run.journal) ∙ sym (length-append s.seat.run.journal (event_of s.seat.run.state (step_of e) ∷ []))) in
       subst (Passes (within done s coming))
-      (sym (ap lines_of (append_assoc (event_line n e) (event_lines (suc n) events) behind_it)
-      ∙ one_line_first (event_line n e) (event_lines (suc n) events ++ behind_it) (event_one_line n e)))
-      (pass_line (within done s coming) (within done t coming) (event_line n e) (lines_of (event_lines (suc n) events ++ behind_it)) one
+      (sym (ap lines_of (append_assoc (event_line n e) (event_lines (suc n) events) after_it)
+      ∙ one_line_first (event_line n e) (event_lines (suc n) events ++ after_it) (event_one_line n e)))
+      (pass_line (within done s coming) (within done t coming) (event_line n e) (lines_of (event_lines (suc n) events ++ after_it)) one
       (pass_events done t coming events (suc n) rest (fit_after s.seat.run.state (step_of e) f h.0) longer h.3 k))
     where
       grown : (n : ℕ) → suc n ≡ n + 1
       grown n = omega arith
 
-  -- ---- the sections, and the lines behind them
+  -- ---- the sections, and the lines after them
 
-  part_step : (done : List Done) (place : ℕ) (spec : PartSpec) (coming : List PartSpec) → length done ≡ place → IsValidPart spec
-      → after_line scenario (between done (spec ∷ coming)) (part_line place spec) ≡ Some (within done (opening_section scenario.threads place spec) coming)
+  part_step : (done : List Done) (index : ℕ) (spec : PartSpec) (coming : List PartSpec) → length done ≡ index → IsValidPart spec
+      → after_line scenario (between done (spec ∷ coming)) (part_line index spec) ≡ Some (within done (opening_section scenario.threads index spec) coming)
   unfolding after_line
-  part_step done place spec coming at v =
-      let line : List ℕ = part_line place spec in
-      let same : bytes_eq line (part_line place spec) ≡ true = (bytes_eq-Decides line (part_line place spec)).1 refl in
-      rw (at, one_line_ended line (part_one_line place spec v.name), same) refl
+  part_step done index spec coming at v =
+      let line : List ℕ = part_line index spec in
+      let same : bytes_eq line (part_line index spec) ≡ true = (bytes_eq-Decides line (part_line index spec)).1 refl in
+      rw (at, one_line_ended line (part_one_line index spec v.name), same) refl
 
-  pass_parts : (place : ℕ) (specs : List PartSpec) (journals : List (List Event)) (done : List Done) (rest : List ℕ) → length done ≡ place
-      → AllByRecursion IsValidPart specs → AllFit scenario.threads place specs journals
-      → Passes (between (done ++ sections_of scenario.threads place specs journals) []) (lines_of rest)
-      → Passes (between done specs) (lines_of (parts_text place specs journals ++ rest))
+  pass_parts : (index : ℕ) (specs : List PartSpec) (journals : List (List Event)) (done : List Done) (rest : List ℕ) → length done ≡ index
+      → AllByRecursion IsValidPart specs → AllFit scenario.threads index specs journals
+      → Passes (between (done ++ sections_of scenario.threads index specs journals) []) (lines_of rest)
+      → Passes (between done specs) (lines_of (parts_text index specs journals ++ rest))
   unfolding AllFit parts_text part_text sections_of
-  pass_parts place [] [] done rest at v h k = subst (λ d. Passes (between d []) (lines_of rest)) (append-nil done) k
-  pass_parts place [] (journal ∷ journals) done rest at v h k = absurd h
-  pass_parts place (spec ∷ specs) [] done rest at v h k = absurd h
-  pass_parts place (spec ∷ specs) (journal ∷ journals) done rest at v h k =
-      let s : Section = opening_section scenario.threads place spec in
+  pass_parts index [] [] done rest at v h k = subst (λ d. Passes (between d []) (lines_of rest)) (append-nil done) k
+  pass_parts index [] (journal ∷ journals) done rest at v h k = absurd h
+  pass_parts index (spec ∷ specs) [] done rest at v h k = absurd h
+  pass_parts index (spec ∷ specs) (journal ∷ journals) done rest at v h k =
+      let s : Section = opening_section scenario.threads index spec in
       let end : Section = section_from s journal in
-      let others : List ℕ = parts_text (suc place) specs journals ++ rest in
-      let text : part_text place spec journal ++ others ≡ part_line place spec ++ (event_lines 1 journal ++ (section_end end ++ others)) =
-      four_pieces (part_line place spec) (event_lines 1 journal) _ others
-      ∙ ap (λ x. part_line place spec ++ (event_lines 1 journal ++ (x ++ others))) (sym (section_end_is scenario.threads place spec journal h.0)) in
+      let others : List ℕ = parts_text (suc index) specs journals ++ rest in
+      let text : part_text index spec journal ++ others ≡ part_line index spec ++ (event_lines 1 journal ++ (section_end end ++ others)) =
+      four_pieces (part_line index spec) (event_lines 1 journal) _ others
+      ∙ ap (λ x. part_line index spec ++ (event_lines 1 journal ++ (x ++ others))) (sym (section_end_is scenario.threads index spec journal h.0)) in
       subst (Passes (between done (spec ∷ specs)))
-      (sym (ap lines_of (append_assoc (part_text place spec journal) (parts_text (suc place) specs journals) rest ∙ text)
-      ∙ one_line_first (part_line place spec) (event_lines 1 journal ++ (section_end end ++ others)) (part_one_line place spec v.0.name)))
-      (pass_line (between done (spec ∷ specs)) (within done s specs) (part_line place spec) _ (part_step done place spec specs at v.0)
+      (sym (ap lines_of (append_assoc (part_text index spec journal) (parts_text (suc index) specs journals) rest ∙ text)
+      ∙ one_line_first (part_line index spec) (event_lines 1 journal ++ (section_end end ++ others)) (part_one_line index spec v.0.name)))
+      (pass_line (between done (spec ∷ specs)) (within done s specs) (part_line index spec) _ (part_step done index spec specs at v.0)
       (pass_events done s specs journal 1 others (opening_fit spec (valid_fits spec v.0)) refl h.0
-      (pass_parts (suc place) specs journals (done ++ done_of end ∷ []) rest
-      (length-append done (done_of end ∷ []) ∙ ap (λ (n : ℕ). n + 1) at ∙ next place) v.1 h.1
-      (subst (λ d. Passes (between d []) (lines_of rest)) (sym (append_assoc done (done_of end ∷ []) (sections_of scenario.threads (suc place) specs journals))) k))))
+      (pass_parts (suc index) specs journals (done ++ done_of end ∷ []) rest
+      (length-append done (done_of end ∷ []) ∙ ap (λ (n : ℕ). n + 1) at ∙ next index) v.1 h.1
+      (subst (λ d. Passes (between d []) (lines_of rest)) (sym (append_assoc done (done_of end ∷ []) (sections_of scenario.threads (suc index) specs journals))) k))))
     where
       next : (n : ℕ) → n + 1 ≡ suc n
       next n = omega arith

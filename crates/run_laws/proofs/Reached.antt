@@ -1,4 +1,4 @@
--- Each simulation that a scenario's run reaches keeps what is said of its threads; where no actor has a step every
+-- Each simulation that a scenario's run reaches keeps the invariant of its threads. When no actor has a step, every
 -- operation has its answer.
 use Rattle.std.proofs.Common.{◌≡◌, ◌⊎◌, inl, inr, ℕ, zero, suc, ◌+◌, ◌*◌, ◌<◌, ◌≤◌, ◌==◌, ◌&&◌, nat_lt, cond, is_none, if◌then◌else◌, Bool, true, Option, Some, None, List, [], ◌∷◌, ◌++◌, map, length, slice_get, slice_set, refl, sym, ap, ap₂, ◌∙◌, subst, arith, append-nil}
 use Rattle.std.specs.List.{AllByRecursion}
@@ -28,7 +28,7 @@ use Rattle.nook_data.specs.Valid.{IsValidPart, IsValidScenario, IsValidThread}
 use Rattle.nook_data.specs.Views.Limits.{IsValidStep}
 use Rattle.machine_defs.proofs.BurstKeeps.{split}
 use Rattle.part_laws.proofs.Counts.{step_counted}
-use Rattle.part_laws.proofs.Places.{from_map, get_set, length_map}
+use Rattle.part_laws.proofs.Indices.{from_map, get_set, length_map}
 use Rattle.part_laws.proofs.RunBound.{opening_tied}
 use Rattle.part_laws.proofs.RunProgress.{none_still}
 use Rattle.part_laws.proofs.RunsDetermined.{step_named}
@@ -39,11 +39,11 @@ use Rattle.part_laws.specs.Bound.{is_invoke}
 use Rattle.part_laws.specs.Fit.{IsFit}
 use Rattle.part_laws.specs.Tied.{IsTied}
 use Rattle.run_laws.proofs.Choices.{IsOwn, IsGood, HasNoStep, arrivals_none, choices_good, threads_none, parts_none}
-use Rattle.run_laws.proofs.Numbers.{number, told_number, started_number, found_none, step_says}
+use Rattle.run_laws.proofs.Numbers.{number, pending_number, started_number, found_none, step_says}
 use Rattle.run_laws.proofs.Threads.{AreThreadsOf, IsThreadOf, all_parts, heard_length, rest_count, rest_le, rest_less, threads_step, waiting_part, waits_in}
 use Rattle.nook_data.proofs.Options.{none_is_some, same_inside}
 
--- the part with a number
+-- the part with an index
 abbrev At : List RunningPart → ℕ → RunningPart → Type 0
 At parts k seat = slice_get parts k ≡ Some seat
 
@@ -52,8 +52,8 @@ abbrev ops_count : List ThreadSpec → ℕ
 ops_count [] = 0
 ops_count (t ∷ threads) = length t.ops + ops_count threads
 
--- what holds of each simulation that is reached: a call is open only of a thread that is there, and the numbers given and
--- the operations left are no more than the scenario's operations
+-- the invariant of each simulation that is reached: only existing threads have open calls, and in each part the numbers
+-- assigned and all operations left are together no more than the scenario's operations
 record Holds (scenario : Scenario) (s : Simulation) : Type 0 where
   size : length s.parts ≡ length scenario.parts
   count : length s.threads ≡ length scenario.threads
@@ -80,16 +80,16 @@ set_length (y ∷ xs) (suc k) x = ap suc (set_length xs k x)
 
 -- ---- one step
 
--- what holds of the new part and of each part before holds of each part after
+-- what holds of the new part and of each old part holds of each part afterwards
 after_set : (P : RunningPart → Type 0) (parts : List RunningPart) (part : ℕ) (new : RunningPart) → P new → ((k : ℕ) (seat : RunningPart) → At parts k seat → P seat)
     → (k : ℕ) (seat : RunningPart) → At (slice_set parts part new) k seat → P seat
-after_set P parts part new here there k seat h = by_place (get_set parts k part new seat h)
+after_set P parts part new here there k seat h = by_position (get_set parts k part new seat h)
   where
-    by_place : ((k ≡ part) × (seat ≡ new)) ⊎ ((k ≡ part → ⊥) × At parts k seat) → P seat
-    by_place (inl e) = subst P (sym e.1) here
-    by_place (inr n) = there k seat n.1
+    by_position : ((k ≡ part) × (seat ≡ new)) ⊎ ((k ≡ part → ⊥) × At parts k seat) → P seat
+    by_position (inl e) = subst P (sym e.1) here
+    by_position (inr n) = there k seat n.1
 
--- numbers that are given, and operations that are left
+-- the numbers assigned and the operations left
 zero_more : (a b : ℕ) → a ≤ b → 0 + a ≤ b
 zero_more a b l = omega arith
 
@@ -108,7 +108,7 @@ one_less part (event.Burst context call burst count end acts a failure) whole ow
 one_less part (event.Stage stage answers released) whole own = zero_more _ _ (rest_le 0 part (event.Stage stage answers released) whole)
 one_less part (event.Arrive frame kept) whole own = zero_more _ _ (rest_le 0 part (event.Arrive frame kept) whole)
 
--- a thread that is none invokes nothing
+-- a thread that does not exist invokes nothing
 none_started : (t part : ℕ) (e : Event) (whole : List ThreadState) → IsOwn whole part (step_of e) → length whole ≤ t → started_number t e None ≡ None
 none_started t part (event.Invoke call thread o a) whole own l =
     let low : thread < length whole = within whole thread own.t own.at in
@@ -146,8 +146,8 @@ step_holds scenario s order c seat h at may own =
           let far : length s.threads ≤ t = subst (λ (n : ℕ). n ≤ t) (heard_length 0 c.part e s.threads) l in
           after_set (λ (y : RunningPart). number t y.run.state.log.pending ≡ None) s.parts c.part new
           (step_says seat.run.state c.step t tied may
-          ∙ ap (λ w. told_number (λ call. answer_at call e) (started_number t e w)) (h.outside c.part seat t at far)
-          ∙ ap (told_number (λ call. answer_at call e)) (none_started t c.part e s.threads own' far))
+          ∙ ap (λ w. pending_number (λ call. answer_at call e) (started_number t e w)) (h.outside c.part seat t at far)
+          ∙ ap (pending_number (λ call. answer_at call e)) (none_started t c.part e s.threads own' far))
           (λ j y q. h.outside j y t q far) k x p;
     }
   where
@@ -171,21 +171,21 @@ order_holds scenario s order h = record {
   outside = h.outside;
 }
 
-at_place : {X : Type 0} (P : X → Type 0) (xs : List X) (i : ℕ) (x : X) → AllByRecursion P xs → slice_get xs i ≡ Some x → P x
-at_place P [] i x all h = none_is_some h
-at_place P (y ∷ xs) zero x all h = subst P (same_inside h) all.0
-at_place P (y ∷ xs) (suc i) x all h = at_place P xs i x all.1 h
+at_position : {X : Type 0} (P : X → Type 0) (xs : List X) (i : ℕ) (x : X) → AllByRecursion P xs → slice_get xs i ≡ Some x → P x
+at_position P [] i x all h = none_is_some h
+at_position P (y ∷ xs) zero x all h = subst P (same_inside h) all.0
+at_position P (y ∷ xs) (suc i) x all h = at_position P xs i x all.1 h
 
 taken_holds : (scenario : Scenario) (s : Simulation) (choices : List Choice) → AllByRecursion (IsGood s.parts s.threads) choices → Holds scenario s
     → Holds scenario (taken s choices)
 unfolding taken
-taken_holds scenario s choices all h = by_choice (slice_get choices (picked s.order (map actor_of choices)).place) refl
+taken_holds scenario s choices all h = by_choice (slice_get choices (picked s.order (map actor_of choices)).index) refl
   where
-    by_choice : (o : Option Choice) → slice_get choices (picked s.order (map actor_of choices)).place ≡ o
+    by_choice : (o : Option Choice) → slice_get choices (picked s.order (map actor_of choices)).index ≡ o
         → Holds scenario (taken_by s (picked s.order (map actor_of choices)).order o)
     by_choice None e = order_holds scenario s (picked s.order (map actor_of choices)).order h
     by_choice (Some c) e =
-        let good : IsGood s.parts s.threads c = at_place (IsGood s.parts s.threads) choices (picked s.order (map actor_of choices)).place c all e in
+        let good : IsGood s.parts s.threads c = at_position (IsGood s.parts s.threads) choices (picked s.order (map actor_of choices)).index c all e in
         subst (λ q. Holds scenario (stepped_by s (picked s.order (map actor_of choices)).order c q)) (sym good.at)
         (step_holds scenario s (picked s.order (map actor_of choices)).order c good.seat h good.at good.may good.own)
 
@@ -223,7 +223,7 @@ begins_holds scenario v =
       size = length_map opening_part scenario.parts;
       count = length_map opening_thread scenario.threads;
       fit = λ k seat h. let o = first k seat h in
-          subst (λ (x : RunningPart). IsFit x.run.state) (sym o.2) (opening_fit o.0 (valid_fits o.0 (at_place IsValidPart scenario.parts k o.0 valid o.1)));
+          subst (λ (x : RunningPart). IsFit x.run.state) (sym o.2) (opening_fit o.0 (valid_fits o.0 (at_position IsValidPart scenario.parts k o.0 valid o.1)));
       tied = λ k seat h. let o = first k seat h in subst (λ (x : RunningPart). IsTied x.run.state) (sym o.2) (opening_tied o.0);
       threads = opening_threads scenario.parts 0 scenario.threads none;
       few = λ k seat h. small _ _ _ (ap (λ (x : RunningPart). x.run.state.log.count) (first k seat h).2) (rest_of_all scenario.threads);
@@ -272,9 +272,9 @@ none_next p (c ∷ calls) each =
     (λ mine. each t c.call (rw mine refl))
     (λ other. each t m (rw other e))))
 
-all_behind : {X : Type 0} (P : X → Type 0) (xs ys : List X) → AllByRecursion P (xs ++ ys) → AllByRecursion P ys
-all_behind P [] ys h = h
-all_behind P (x ∷ xs) ys h = all_behind P xs ys h.1
+all_after : {X : Type 0} (P : X → Type 0) (xs ys : List X) → AllByRecursion P (xs ++ ys) → AllByRecursion P ys
+all_after P [] ys h = h
+all_after P (x ∷ xs) ys h = all_after P xs ys h.1
 
 all_ops : (n : ℕ) (ops : List (ℕ × Op)) → AllByRecursion (IsValidStep n) ops → AllByRecursion (λ k. k < n) (map (λ o. o.0) ops)
 all_ops n [] h = tt
@@ -317,7 +317,7 @@ module _ (scenario : Scenario) (v : IsValidScenario scenario) (s : Simulation) (
       (none_still seat.run.state (h.fit k seat at) (h.tied k seat at)
       (rw (recovery_end k seat at) (none_next seat.run.state seat.run.state.log.pending (call_end k seat at)))).calls
 
-  -- every operation is on a part that is there
+  -- every operation is on a part that exists
   on_part : (k : ℕ) → k < length scenario.parts → (seat : RunningPart) × At s.parts k seat
   on_part k l = some_at s.parts k (subst (λ (n : ℕ). k < n) (sym h.size) l)
 
@@ -326,7 +326,7 @@ module _ (scenario : Scenario) (v : IsValidScenario scenario) (s : Simulation) (
   waits_nowhere n spec t None is e low = refl
   waits_nowhere n spec t (Some w) is e low =
       let parts : AllByRecursion (λ k. k < length scenario.parts) (waiting_part t.waiting ++ map (λ o. o.0) t.rest) =
-      all_behind (λ k. k < length scenario.parts) (map (λ a. a.0) t.answers) (waiting_part t.waiting ++ map (λ o. o.0) t.rest) low in
+      all_after (λ k. k < length scenario.parts) (map (λ a. a.0) t.answers) (waiting_part t.waiting ++ map (λ o. o.0) t.rest) low in
       let here : w.part < length scenario.parts =
       (subst (λ o. AllByRecursion (λ k. k < length scenario.parts) (waiting_part o ++ map (λ o. o.0) t.rest)) e parts).0 in
       let seat = on_part w.part here in
@@ -343,7 +343,7 @@ module _ (scenario : Scenario) (v : IsValidScenario scenario) (s : Simulation) (
   invokes_nothing n spec t [] is free e few none counts low = refl
   invokes_nothing n spec t ((part, o) ∷ rest) is free e few none counts low =
       let parts : AllByRecursion (λ k. k < length scenario.parts) (waiting_part t.waiting ++ map (λ o. o.0) t.rest) =
-      all_behind (λ k. k < length scenario.parts) (map (λ a. a.0) t.answers) (waiting_part t.waiting ++ map (λ o. o.0) t.rest) low in
+      all_after (λ k. k < length scenario.parts) (map (λ a. a.0) t.answers) (waiting_part t.waiting ++ map (λ o. o.0) t.rest) low in
       let after : AllByRecursion (λ k. k < length scenario.parts) (map (λ o. o.0) t.rest) =
       subst (λ o. AllByRecursion (λ k. k < length scenario.parts) (waiting_part o ++ map (λ o. o.0) t.rest)) free parts in
       let here : part < length scenario.parts = (subst (λ (xs : List (ℕ × Op)). AllByRecursion (λ k. k < length scenario.parts) (map (λ o. o.0) xs)) e after).0 in
@@ -422,7 +422,7 @@ pub all_answered : (scenario : Scenario) (s : Simulation) → IsValidScenario sc
     → map length (answer_table s) ≡ map (λ t. length t.ops) scenario.threads
 all_answered scenario s v r = (both_end scenario v s (run_holds scenario s v r) r.ended).1
 
--- at the end no part has a step left but invocations and arrivals
+-- at the end no part has a step left except invocations and arrivals
 pub parts_settled : (scenario : Scenario) (s : Simulation) → IsValidScenario scenario → IsScheduledRun scenario s
     → (k : ℕ) (seat : RunningPart) → slice_get s.parts k ≡ Some seat → next_any seat.run.state ≡ None
 unfolding next_any
@@ -430,7 +430,7 @@ parts_settled scenario s v r k seat at =
     let h = run_holds scenario s v r in
     rw (recovery_end scenario v s h r.ended k seat at, none_open scenario v s h r.ended k seat at) refl
 
--- and no frame of a part may arrive
+-- and no part has a frame that may arrive
 pub none_arrives : (s : Simulation) → choices_of s ≡ [] → (k : ℕ) (seat : RunningPart) → slice_get s.parts k ≡ Some seat
     → arrival seat.run seat.coming ≡ None
 none_arrives s ended =

@@ -1,5 +1,5 @@
--- What holds of each simulation that a scenario's run reaches: a thread's answers, its open call and what it has still
--- to invoke are its operations, in order; and it waits where it has an open call.
+-- The invariant of each simulation that a scenario's run reaches: a thread's answers, open call and operations left are
+-- its operations, in order, and it waits in the part that has its open call.
 use Rattle.std.proofs.Common.{drop, ◌≡◌, ◌⊎◌, inl, inr, ℕ, zero, suc, ◌+◌, ◌≤◌, ◌==◌, if◌then◌else◌, true, false, Option, Some, None, List, [], ◌∷◌, ◌++◌, map, length, slice_get, slice_set, refl, sym, ap, ◌∙◌, subst, arith, append_assoc}
 use Rattle.std.proofs.lemmas.Bool.{eqb-true, eq-eqb, ne_eqb}
 use Rattle.nook_data.specs.declared.calls.Answer.{Answer}
@@ -16,11 +16,11 @@ use Rattle.run_defs.specs.Simulation.{part_after}
 use Rattle.run_defs.proofs.RunChanges.{settled_by, settled}
 use Rattle.part_defs.specs.Steps.{enabled}
 use Rattle.machine_defs.proofs.BurstKeeps.{split}
-use Rattle.part_laws.proofs.Places.{get_set, map_push}
+use Rattle.part_laws.proofs.Indices.{get_set, map_push}
 use Rattle.part_laws.proofs.RunsDetermined.{step_named}
 use Rattle.part_laws.specs.Tied.{IsTied}
 use Rattle.run_laws.proofs.Choices.{IsOwn}
-use Rattle.run_laws.proofs.Numbers.{number, told_number, started_number, step_says}
+use Rattle.run_laws.proofs.Numbers.{number, pending_number, started_number, step_says}
 use Rattle.nook_data.proofs.Options.{same_inside}
 
 -- the number of the call that a thread waits for in a part
@@ -32,7 +32,7 @@ abbrev pub waiting_part : Option Waiting → List ℕ
 waiting_part None = []
 waiting_part (Some w) = w.part ∷ []
 
--- the parts of a thread's operations, by what became of them
+-- the parts of a thread's operations: answered, open and not invoked
 abbrev pub all_parts : ThreadState → List ℕ
 all_parts t = map (λ a. a.0) t.answers ++ (waiting_part t.waiting ++ map (λ o. o.0) t.rest)
 
@@ -50,7 +50,7 @@ AreThreadsOf parts n (spec ∷ specs) (t ∷ threads) = IsThreadOf parts n spec 
 
 record Settled (part : ℕ) (e : Event) (s t : ThreadState) : Type 0 where
   order : all_parts t ≡ all_parts s
-  here : told_number (λ call. answer_at call e) (waits_in part s.waiting) ≡ waits_in part t.waiting
+  here : pending_number (λ call. answer_at call e) (waits_in part s.waiting) ≡ waits_in part t.waiting
   there : (k : ℕ) → (part == k) ≡ false → waits_in k s.waiting ≡ waits_in k t.waiting
 
 by_answer : (part : ℕ) (e : Event) (s : ThreadState) (w : Waiting) (a : Option Answer) → s.waiting ≡ Some w → (w.part == part) ≡ true
@@ -59,35 +59,35 @@ by_answer part e s w None h same silent =
     let at : waits_in part s.waiting ≡ Some w.call = ap (waits_in part) h ∙ mine in
     record {
       order = refl;
-      here = ap (told_number (λ call. answer_at call e)) at ∙ kept ∙ sym at;
+      here = ap (pending_number (λ call. answer_at call e)) at ∙ kept ∙ sym at;
       there = λ k other. refl;
     }
   where
     mine : waits_in part (Some w) ≡ Some w.call
     mine = rw same refl
 
-    kept : told_number (λ call. answer_at call e) (Some w.call) ≡ Some w.call
+    kept : pending_number (λ call. answer_at call e) (Some w.call) ≡ Some w.call
     kept = rw silent refl
 by_answer part e s w (Some a) h same told' = record {
   order = ap (λ xs. xs ++ map (λ o. o.0) s.rest) (map_push (λ a. a.0) s.answers (part, a))
       ∙ append_assoc (map (λ a. a.0) s.answers) (part ∷ []) (map (λ o. o.0) s.rest)
       ∙ ap (λ n. map (λ a. a.0) s.answers ++ (n ∷ map (λ o. o.0) s.rest)) (sym (eqb-true w.part part same))
       ∙ ap (λ o. map (λ a. a.0) s.answers ++ (waiting_part o ++ map (λ o. o.0) s.rest)) (sym h);
-  here = ap (λ o. told_number (λ call. answer_at call e) (waits_in part o)) h ∙ rw (same, told') refl;
+  here = ap (λ o. pending_number (λ call. answer_at call e) (waits_in part o)) h ∙ rw (same, told') refl;
   there = λ k other. ap (waits_in k) h ∙ rw (ap (λ n. n == k) (eqb-true w.part part same) ∙ other) refl;
 }
 
 settles : (part : ℕ) (e : Event) (s : ThreadState) (w : Option Waiting) → s.waiting ≡ w → Settled part e s (settled part e s w)
 settles part e s None h = record {
   order = refl;
-  here = ap (λ o. told_number (λ call. answer_at call e) (waits_in part o)) h ∙ sym (ap (waits_in part) h);
+  here = ap (λ o. pending_number (λ call. answer_at call e) (waits_in part o)) h ∙ sym (ap (waits_in part) h);
   there = λ k other. refl;
 }
 settles part e s (Some w) h = split (w.part == part)
     (λ same. subst (λ a. Settled part e s (settled_by part s a)) (mine same) (by_answer part e s w (answer_at w.call e) h same refl))
     (λ other. subst (λ a. Settled part e s (settled_by part s a)) (none other) (record {
       order = refl;
-      here = ap (told_number (λ call. answer_at call e)) (away other) ∙ sym (away other);
+      here = ap (pending_number (λ call. answer_at call e)) (away other) ∙ sym (away other);
       there = λ k elsewhere. refl;
     }))
   where
@@ -145,11 +145,11 @@ thread_step parts n spec t part seat s at tied may own is =
     let done : Settled part e one (thread_after part e one) = settles part e one one.waiting refl in
     record {
       order = done.order ∙ begun.order ∙ is.order;
-      waits = λ k new h. by_place (get_set parts k part (part_after s seat) new h)
+      waits = λ k new h. by_position (get_set parts k part (part_after s seat) new h)
           (λ same. ap (λ (x : RunningPart). number n x.run.state.log.pending) same.1
           ∙ step_says seat.run.state s n tied may
-          ∙ ap (λ w. told_number (λ call. answer_at call e) (started_number n e w)) (is.waits part seat at)
-          ∙ ap (told_number (λ call. answer_at call e)) begun.here
+          ∙ ap (λ w. pending_number (λ call. answer_at call e) (started_number n e w)) (is.waits part seat at)
+          ∙ ap (pending_number (λ call. answer_at call e)) begun.here
           ∙ done.here
           ∙ ap (λ (m : ℕ). waits_in m (thread_after part e one).waiting) (sym same.0))
           (λ other.
@@ -157,9 +157,9 @@ thread_step parts n spec t part seat s at tied may own is =
           is.waits k new other.1 ∙ begun.there k apart ∙ done.there k apart);
     }
   where
-    by_place : {A B G : Type 0} → A ⊎ B → (A → G) → (B → G) → G
-    by_place (inl a) f g = f a
-    by_place (inr b) f g = g b
+    by_position : {A B G : Type 0} → A ⊎ B → (A → G) → (B → G) → G
+    by_position (inl a) f g = f a
+    by_position (inr b) f g = g b
 
 pub own_of : (whole : List ThreadState) (n part : ℕ) (t : ThreadState) (s : Step) → IsOwn whole part s → slice_get whole n ≡ Some t → IsOwnOf n part t s
 own_of whole n part t (step.Invoke thread o) own at =

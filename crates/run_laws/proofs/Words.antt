@@ -5,7 +5,7 @@ use Rattle.std.proofs.lemmas.Bool.Decides.{nat_tests}
 use Rattle.std.proofs.lemmas.Fmt.{decimal_injective}
 use Rattle.std.proofs.lemmas.Slice.Eq.{bytes_eq-Decides}
 use Rattle.std.specs.Fmt.{digit_glyph, digits, digits_onto}
-use Rattle.part_laws.proofs.Places.{split}
+use Rattle.part_laws.proofs.Indices.{split}
 use Rattle.run_laws.proofs.Lines.{has_no_feed}
 use Rattle.run_laws.specs.Audit.{context_among, context_in, is_numbered, with_byte, words_of}
 
@@ -76,14 +76,14 @@ decimal_numbered n rest = digits_numbered (decimal n) rest (decimal_digits n)
 
 -- ---- words
 
--- the first word, which a blank ends
+-- the first word, if a blank ends it
 pub first_word : (word rest : List ℕ) → has_no_blank word ≡ true → words_of (word ++ 32 ∷ rest) ≡ word ∷ words_of rest
 first_word [] rest h = refl
 first_word (byte ∷ word) rest h = split (byte == 32)
     (λ e. absurd (true≢false (sym (rw e at h))))
     (λ e. rw e (ap (with_byte byte) (first_word word rest (rw e at h))))
 
--- words with a blank behind each
+-- words, each followed by a blank
 abbrev pub joined : List (List ℕ) → List ℕ → List ℕ
 joined [] rest = rest
 joined (word ∷ words) rest = word ++ 32 ∷ joined words rest

@@ -24,13 +24,12 @@ use Rattle.nook_data.specs.declared.limits.TheConstants.{CONTEXTS}
 
 -- ---- lines
 
--- a byte in front of the first line
+-- puts a byte before the first line
 abbrev pub with_byte : ℕ → List (List ℕ) → List (List ℕ)
 with_byte byte [] = (byte ∷ []) ∷ []
 with_byte byte (line ∷ lines) = (byte ∷ line) ∷ lines
 
--- the lines of a text, each with the line feed that ends it; what is left behind the last line feed is a line without
--- one
+-- the lines of a text, each with the line feed that ends it; bytes after the last line feed are a line without one
 unfoldable pub lines_of : List ℕ → List (List ℕ)
 lines_of [] = []
 lines_of (byte ∷ bytes) = if byte == 10 then (10 ∷ []) ∷ lines_of bytes else with_byte byte (lines_of bytes)
@@ -43,22 +42,22 @@ is_ended (byte ∷ next ∷ line) = is_ended (next ∷ line)
 
 -- ---- words
 
--- the words of a line, between blanks; the line feed is a part of the last
+-- the words of a line, separated by blanks; the line feed is part of the last
 abbrev pub words_of : List ℕ → List (List ℕ)
 words_of [] = [] ∷ []
 words_of (byte ∷ line) = if byte == 32 then [] ∷ words_of line else with_byte byte (words_of line)
 
--- the word at a place, from 0; empty where there is none
+-- the word at an index; empty if there is none
 abbrev pub word_at : ℕ → List ℕ → List ℕ
-word_at place line = slice_index_or (words_of line) place []
+word_at index line = slice_index_or (words_of line) index []
 
--- the first of some contexts, from one on, that a letter and its number name
+-- of the contexts from this one on, the first that the word names by a letter and its number
 abbrev pub context_among : ℕ → List ℕ → List ℕ → ℕ → Option ℕ
 context_among zero letter word context = None
 context_among (suc more) letter word context =
     if bytes_eq word (letter ++ decimal context) then Some context else context_among more letter word (suc context)
 
--- the context 0 to 16 that a word names by a letter and its number: threads are the contexts below 16
+-- the context, 0 to 16, that a word names by a letter and its number; contexts below 16 are threads
 abbrev pub context_in : List ℕ → List ℕ → Option ℕ
 context_in letter word = context_among CONTEXTS letter word 0
 
@@ -69,25 +68,25 @@ is_numbered (byte ∷ line) = nat_le 48 byte && nat_le byte 57
 
 -- ---- the section of a part
 
--- a part as the lines of its section so far leave it: its place, what it is made from, its journal and the frames that
--- have not arrived, and what each thread has not invoked on it and was answered by it
+-- a part after the lines of its section so far: its index, what it is made from, its journal, the frames that have not
+-- arrived, and for each thread the operations on it that were not invoked and the answers that it gave
 pub record Section : Type 0 where
-  pub place : ℕ
+  pub index : ℕ
   pub spec : PartSpec
   pub seat : RunningPart
   pub threads : List ThreadState
 
 abbrev pub is_on : ℕ → ℕ × Op → Bool
-is_on place o = o.0 == place
+is_on index o = o.0 == index
 
 -- a thread that has invoked none of its operations on a part
 abbrev pub thread_on : ℕ → ThreadSpec → ThreadState
-thread_on place t = record { rest = filter (is_on place) t.ops; waiting = None; answers = [] }
+thread_on index t = record { rest = filter (is_on index) t.ops; waiting = None; answers = [] }
 
--- the section behind the part's first line
+-- the section after the part's first line
 abbrev pub opening_section : List ThreadSpec → ℕ → PartSpec → Section
-opening_section threads place spec =
-    record { place = place; spec = spec; seat = opening_part spec; threads = map (thread_on place) threads }
+opening_section threads index spec =
+    record { index = index; spec = spec; seat = opening_part spec; threads = map (thread_on index) threads }
 
 -- the invocation of a thread's next operation
 abbrev pub invocation_by : ℕ → Option ThreadState → Option Step
@@ -111,7 +110,7 @@ abbrev pub arrival_of : List (List ℕ) → Option Step
 arrival_of [] = None
 arrival_of (frame ∷ coming) = Some (step.Arrive frame)
 
--- the step that a line of a section names by its words: the second says what it is, the third or fourth whose
+-- the step that a line of a section names by its words: the second says its kind, the third or fourth whose it is
 unfoldable pub step_named : Section → List ℕ → Option Step
 step_named s line =
     if bytes_eq (word_at 1 line) (codes "invoke") then if_invoked s.threads (context_in (codes "t") (word_at 3 line))
@@ -125,7 +124,7 @@ step_named s line =
 unfoldable pub section_after : Section → Step → Section
 section_after s taken = record s {
   seat = part_after taken s.seat;
-  threads = threads_after 0 s.place (event_of s.seat.run.state taken) s.threads;
+  threads = threads_after 0 s.index (event_of s.seat.run.state taken) s.threads;
 }
 
 -- the step may be taken, and the line is that of its event
@@ -137,7 +136,7 @@ abbrev pub after_step : Section → List ℕ → Option Step → Option Section
 after_step s line None = None
 after_step s line (Some taken) = if is_line_of s taken line then Some (section_after s taken) else None
 
--- the section after a line of an event, where it fits
+-- the section after a line of an event, if the line fits
 unfoldable pub after_event : Section → List ℕ → Option Section
 after_event s line = after_step s line (step_named s line)
 
@@ -145,7 +144,7 @@ abbrev pub has_nothing : {T : Type 0} → List T → Bool
 has_nothing [] = true
 has_nothing (item ∷ items) = false
 
--- a thread has invoked all its operations on the part, and was answered
+-- a thread has invoked all its operations on the part, and has no open call
 abbrev pub is_through : ThreadState → Bool
 is_through t = has_nothing t.rest && is_none t.waiting
 
@@ -157,12 +156,12 @@ are_through (t ∷ threads) = is_through t && are_through threads
 unfoldable pub is_complete : Section → Bool
 is_complete s = are_through s.threads && (has_nothing s.seat.coming && is_none (next_any s.seat.run.state))
 
--- the lines behind a section's events
+-- the lines after a section's events
 unfoldable pub section_end : Section → List ℕ
 section_end s = final_lines s.spec.class s.seat.run.journal (losses s.seat.run.journal)
     (first_break s.spec.class s.spec.blocks s.seat.run.journal) s.seat.run.state
 
--- ---- the lines behind the sections
+-- ---- the lines after the sections
 
 -- what a section leaves: its part's journal, and what it answered each thread
 pub record Done : Type 0 where
@@ -183,23 +182,23 @@ in_script_order (o ∷ ops) given = elim (slice_index_or given o.0 []) [
   | (a ∷ more) ↦ a ∷ in_script_order ops (slice_set given o.0 more)
 ]
 
--- the answers of each thread, the first of them number `thread`
+-- the answers of each thread, from thread `thread` on
 abbrev pub answers_in_order : ℕ → List ThreadSpec → List Done → List (List (ℕ × Answer))
 answers_in_order thread [] sections = []
 answers_in_order thread (t ∷ threads) sections =
     in_script_order t.ops (map (answers_to thread) sections) ∷ answers_in_order (suc thread) threads sections
 
--- events of a part, each with the part's place
+-- events of a part, each with the part's index
 abbrev pub each_of_part : ℕ → List Event → List (ℕ × Event)
 each_of_part part [] = []
 each_of_part part (e ∷ events) = (part, e) ∷ each_of_part part events
 
--- the events of the sections, one after another, the first of which is that of part `part`
+-- the events of the sections, one section after another, from that of part `part` on
 abbrev pub published_in : ℕ → List Done → List (ℕ × Event)
 published_in part [] = []
 published_in part (d ∷ sections) = each_of_part part d.journal ++ published_in (suc part) sections
 
--- the listeners of the program's own: failures, bursts and answers, of all parts, a million of each
+-- the program's own listeners: of failures, bursts and answers, of all parts, a million of each
 abbrev pub own_listeners : List Listening
 own_listeners =
     record { part_mask = 255; kind_mask = 32; limit = 1000000; total = 0 } ∷
@@ -218,41 +217,41 @@ last_lines scenario sections =
 
 -- ---- the fold over the lines
 
--- what an auditor knows between two lines: the sections that are over, the section that stands open, the text that has
--- to come next, the parts that have had no line, and whether the lines behind the sections have begun
+-- what an auditor knows between two lines: the finished sections, the open section, the text that must come next, the
+-- parts that have had no line, and whether the lines after the sections have begun
 pub record Auditing : Type 0 where
   pub sections : List Done
-  pub standing : Option Section
+  pub current : Option Section
   pub due : List ℕ
   pub coming : List PartSpec
   pub last : Bool
 
 unfoldable pub opening_audit : Scenario → Auditing
-opening_audit scenario = record { sections = []; standing = None; due = []; coming = scenario.parts; last = false }
+opening_audit scenario = record { sections = []; current = None; due = []; coming = scenario.parts; last = false }
 
--- what is left of a text behind a line at its front
-abbrev pub behind : List ℕ → List ℕ → Option (List ℕ)
-behind [] text = Some text
-behind (byte ∷ line) [] = None
-behind (byte ∷ line) (first ∷ text) = if byte == first then behind line text else None
+-- the rest of a text after a line that it begins with
+abbrev pub rest_after : List ℕ → List ℕ → Option (List ℕ)
+rest_after [] text = Some text
+rest_after (byte ∷ line) [] = None
+rest_after (byte ∷ line) (first ∷ text) = if byte == first then rest_after line text else None
 
 abbrev pub with_due : Auditing → Option (List ℕ) → Option Auditing
 with_due a None = None
 with_due a (Some due) = Some (record a { due = due })
 
--- the line is the next of a text that is due now
+-- the line is the next of the due text
 abbrev pub is_next : Auditing → List ℕ → List ℕ → Option Auditing
-is_next a line due = with_due a (behind line due)
+is_next a line due = with_due a (rest_after line due)
 
 abbrev pub with_section : Auditing → Option Section → Option Auditing
 with_section a None = None
-with_section a (Some s) = Some (record a { standing = Some s })
+with_section a (Some s) = Some (record a { current = Some s })
 
 -- the section is over
 abbrev pub past_section : Auditing → Section → Auditing
-past_section a s = record a { sections = a.sections ++ done_of s ∷ []; standing = None }
+past_section a s = record a { sections = a.sections ++ done_of s ∷ []; current = None }
 
--- a line of an open section: of an event, or the first behind the events
+-- a line of an open section: of an event, or the first after the events
 abbrev pub in_section : Auditing → Section → List ℕ → Option Auditing
 in_section a s line =
     if is_numbered line then with_section a (after_event s line) else
@@ -263,11 +262,11 @@ abbrev pub begin_section : Scenario → Auditing → PartSpec → List PartSpec 
 begin_section scenario a spec coming line =
     if bytes_eq line (part_line (length a.sections) spec)
     then Some (record a {
-      standing = Some (opening_section scenario.threads (length a.sections) spec);
+      current = Some (opening_section scenario.threads (length a.sections) spec);
       coming = coming;
     }) else None
 
--- a line behind a section: the first of the next part's, or the first behind the last part's
+-- a line after a section: the first of the next part's section, or the first after the last section
 abbrev pub between_sections : Scenario → Auditing → List PartSpec → List ℕ → Option Auditing
 between_sections scenario a (spec ∷ coming) line = begin_section scenario a spec coming line
 between_sections scenario a [] line =
@@ -278,18 +277,18 @@ by_section scenario a None line = between_sections scenario a a.coming line
 by_section scenario a (Some s) line = in_section a s line
 
 abbrev pub by_due : Scenario → Auditing → List ℕ → List ℕ → Option Auditing
-by_due scenario a [] line = by_section scenario a a.standing line
+by_due scenario a [] line = by_section scenario a a.current line
 by_due scenario a (byte ∷ due) line = is_next a line (byte ∷ due)
 
--- what the auditor knows after a line, where it fits
+-- what the auditor knows after a line, if it fits
 unfoldable pub after_line : Scenario → Auditing → List ℕ → Option Auditing
 after_line scenario a line = if is_ended line then by_due scenario a a.due line else None
 
--- every line that a report has was there
+-- all lines of the report have come
 abbrev pub is_over : Auditing → Bool
 is_over a = a.last && has_nothing a.due
 
--- the number of the first line that does not fit, the first of these lines being number `number`
+-- the number of the first line that does not fit; the first of these lines has number `number`
 unfoldable pub first_unfit : Scenario → Auditing → ℕ → List (List ℕ) → Option ℕ
 first_unfit scenario a number [] = if is_over a then None else Some number
 first_unfit scenario a number (line ∷ lines) = elim (after_line scenario a line) [
@@ -297,7 +296,7 @@ first_unfit scenario a number (line ∷ lines) = elim (after_line scenario a lin
   | (Some b) ↦ first_unfit scenario b (suc number) lines
 ]
 
--- the number of the first line of a report that does not fit the scenario, from 1; one more than there are lines where
--- lines are missing; none where every line fits and none is missing
+-- the number of the first line of a report that does not fit the scenario, from 1; one more than the number of lines if
+-- lines are missing; none if every line fits and none is missing
 unfoldable pub audited : Scenario → List ℕ → Option ℕ
 audited scenario report = first_unfit scenario (opening_audit scenario) 1 (lines_of report)

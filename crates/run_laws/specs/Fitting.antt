@@ -1,4 +1,4 @@
--- The runs that a report can be of: the invocations in each journal are the scripts', the arrivals the scenario's.
+-- The runs that a report can be of: in each journal the invocations are the scripts' and the arrivals the scenario's.
 use Rattle.std.specs.Prelude.{◌≡◌, ℕ, suc, true, Some, List, [], ◌∷◌, ◌++◌}
 use Rattle.report_defs.specs.ReportText.{parts_text}
 use Rattle.part_defs.specs.Runs.{event_of, step_of}
@@ -24,33 +24,33 @@ abbrev pub section_from : Section → List Event → Section
 section_from s [] = s
 section_from s (e ∷ events) = section_from (section_after s (step_of e)) events
 
--- the events are made by their steps, each of which may be taken and is the next of its kind
+-- each event is made by its step, which may be taken and is the next of its kind
 unfoldable pub FitsFrom : Section → List Event → Type 0
 FitsFrom s [] = is_complete s ≡ true
 FitsFrom s (e ∷ events) =
     (enabled s.seat.run.state (step_of e) ≡ true) × (event_of s.seat.run.state (step_of e) ≡ e)
     × IsNext s (step_of e) × FitsFrom (section_after s (step_of e)) events
 
--- a journal of the part at a place is a run of just what the threads ask of it and what arrives
+-- the journal of the part with an index is a run of exactly what the threads ask of it and what arrives
 abbrev pub Fits : List ThreadSpec → ℕ → PartSpec → List Event → Type 0
-Fits threads place spec journal = FitsFrom (opening_section threads place spec) journal
+Fits threads index spec journal = FitsFrom (opening_section threads index spec) journal
 
--- so is each journal, the first of them that of part `place`
+-- each journal is such a run, from that of part `place` on
 unfoldable pub AllFit : List ThreadSpec → ℕ → List PartSpec → List (List Event) → Type 0
-AllFit threads place [] [] = Unit {0}
-AllFit threads place [] (journal ∷ journals) = ⊥
-AllFit threads place (spec ∷ specs) [] = ⊥
-AllFit threads place (spec ∷ specs) (journal ∷ journals) =
-    Fits threads place spec journal × AllFit threads (suc place) specs journals
+AllFit threads index [] [] = Unit {0}
+AllFit threads index [] (journal ∷ journals) = ⊥
+AllFit threads index (spec ∷ specs) [] = ⊥
+AllFit threads index (spec ∷ specs) (journal ∷ journals) =
+    Fits threads index spec journal × AllFit threads (suc index) specs journals
 
--- what the sections of some journals leave, the first of them that of part `place`
+-- what the sections of these journals leave, from that of part `place` on
 unfoldable pub sections_of : List ThreadSpec → ℕ → List PartSpec → List (List Event) → List Done
-sections_of threads place [] journals = []
-sections_of threads place (spec ∷ specs) [] = []
-sections_of threads place (spec ∷ specs) (journal ∷ journals) =
-    done_of (section_from (opening_section threads place spec) journal) ∷ sections_of threads (suc place) specs journals
+sections_of threads index [] journals = []
+sections_of threads index (spec ∷ specs) [] = []
+sections_of threads index (spec ∷ specs) (journal ∷ journals) =
+    done_of (section_from (opening_section threads index spec) journal) ∷ sections_of threads (suc index) specs journals
 
--- the report of journals that fit: the parts' lines, and those behind them
+-- the report of journals that fit: the parts' lines, and those after them
 unfoldable pub fitting_text : Scenario → List (List Event) → List ℕ
 fitting_text scenario journals = parts_text 0 scenario.parts journals
     ++ last_lines scenario (sections_of scenario.threads 0 scenario.parts journals)

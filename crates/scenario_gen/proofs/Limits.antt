@@ -1,4 +1,4 @@
--- The generated scenario keeps every limit.
+-- The generated scenario is within every limit.
 use Rattle.std.proofs.Common.{◌≡◌, ◌∙◌, refl, ℕ, zero, suc, ◌+◌, ◌*◌, ◌%◌, ◌^◌, ◌<◌, ◌≤◌, ◌==◌, ◌&&◌, ◌⊎◌, inl, inr, Bool, true, false, nat_lt, nat_le, List, [], ◌∷◌, ◌++◌, length, map, replicate, codes, decimal, if◌then◌else◌, arith, lit≤, lit<, length-append}
 use Rattle.std.specs.Prelude.{All}
 use Rattle.std.specs.Fmt.{digits}
@@ -17,7 +17,7 @@ use Rattle.nook_data.specs.Views.Limits.{IsValidFrame, IsValidStep}
 use Rattle.nook_data.specs.Names.{is_name}
 use Rattle.nook_data.specs.declared.calls.Op.TheVariants as op
 
--- numbers that a test finds small
+-- if a test finds all numbers below n, they are
 below : (n : ℕ) (xs : List ℕ) → list_all (λ x. nat_lt x n) xs ≡ true → All (λ x. x < n) xs
 below n xs h = All-weaker (λ x. nat_lt x n ≡ true) (λ x. x < n) (λ x e. ltb-true x n e) xs (AllPass-from_list_all (λ x. nat_lt x n) xs h)
 
@@ -27,7 +27,7 @@ within n xs h = All-weaker (λ x. nat_le x n ≡ true) (λ x. x ≤ n) (λ x e. 
 pub block_is_valid : IsValidImage block_image
 block_is_valid = record {
   entries = refl;
-  places = within 2047 block_image.entries refl;
+  addresses = within 2047 block_image.entries refl;
   text = (lit≤ tt, below (2 ^ 32) block_words refl);
   initial = (lit≤ tt, All-nil IsWord);
 }
@@ -35,7 +35,7 @@ block_is_valid = record {
 pub net_is_valid : IsValidImage net_image
 net_is_valid = record {
   entries = refl;
-  places = within 2047 net_image.entries refl;
+  addresses = within 2047 net_image.entries refl;
   text = (lit≤ tt, below (2 ^ 32) net_words refl);
   initial = (lit≤ tt, All-nil IsWord);
 }
@@ -43,7 +43,7 @@ net_is_valid = record {
 pub sound_is_valid : IsValidImage sound_image
 sound_is_valid = record {
   entries = refl;
-  places = within 2047 sound_image.entries refl;
+  addresses = within 2047 sound_image.entries refl;
   text = (lit≤ tt, below (2 ^ 32) sound_words refl);
   initial = (lit≤ tt, All-nil IsWord);
 }
@@ -51,7 +51,7 @@ sound_is_valid = record {
 trap_is_valid : (burst : ℕ) → 1 ≤ burst → burst < 2 ^ 32 → IsValidFault (trap_at burst)
 trap_is_valid burst low high = record { burst = (low, high); after = lit≤ tt; kind = tt }
 
--- a burst's number, as a trap has it
+-- a number that a trap may have as its burst
 abbrev is_burst : ℕ → Bool
 is_burst burst = nat_lt 0 burst && nat_lt burst (2 ^ 32)
 
@@ -113,7 +113,7 @@ audio_is_valid = record {
   faults = All-nil IsValidFault;
 }
 
--- a number below 64, and one below 11
+-- a remainder is a word
 rest_is_word : (n m : ℕ) → 0 < m → m < 2 ^ 32 → n % m < 2 ^ 32
 rest_is_word n m low high = omega arith
 

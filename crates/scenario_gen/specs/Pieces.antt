@@ -5,7 +5,7 @@ use Rattle.nook_data.specs.Types.{Fault, PartSpec}
 use Rattle.nook_data.specs.declared.classes.Class.TheVariants as class
 use Rattle.nook_data.specs.declared.scenario.FaultKind.TheVariants as strikes
 
--- a trap in a burst, after 40 turns
+-- a trap in a burst, after 40 instructions
 abbrev pub trap_at : ℕ → Fault
 trap_at burst = record { burst = burst; after = 40; kind = strikes.Trap }
 

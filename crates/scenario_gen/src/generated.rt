@@ -1,4 +1,4 @@
-//! The generated scenario, from its parts and threads down to its operations.
+//! The generated scenario, from its parts and threads to its operations.
 
 ghost use Rattle.std.specs.Prelude.{◌≡◌, ◌+◌, ◌*◌, ◌%◌, ◌<◌, ◌≤◌, [], ◌∷◌, ◌++◌, true, codes, decimal, replicate, map};
 ghost use Rattle.std.specs.Prelude.{IfOk};
@@ -19,8 +19,8 @@ use nook_data::scenario::{
 };
 use std::alloc::Global;
 
-/// The scenario of a number from 1 to 256: so many operations a thread, so many arrivals, and a schedule that is
-/// drawn from it.
+/// The scenario of a number from 1 to 256: each thread has that many operations, the net part has that many arrivals,
+/// and the drawn schedule starts with that number.
 #[tactic(auto, using(crate::proofs::Limits::generated_is_valid), unfolding(run_defs::specs::Generated::generated))]
 pub fn generate(n: u32, alloc: Global) -> Result<Scenario, NoMemory>
     requires { n ≤ 256 }
@@ -39,7 +39,8 @@ pub fn generate(n: u32, alloc: Global) -> Result<Scenario, NoMemory>
 /// The three parts.
 fn parts(n: u32, alloc: Global) -> Result<Parts, NoMemory>
     requires { n ≤ 256 }
-    ensures { IfOk result (λ made. made ≡ generated_disk ∷ generated_link n ∷ generated_audio ∷ []) }
+    ensures { IfOk result
+        (λ made. made ≡ generated_disk ∷ generated_link n ∷ generated_audio ∷ []) }
 {
     let mut made = Items::new(alloc);
     made.push(disk(alloc)?)?;
@@ -51,7 +52,8 @@ fn parts(n: u32, alloc: Global) -> Result<Parts, NoMemory>
 /// The four threads.
 fn threads(n: u32, alloc: Global) -> Result<ThreadSpecs, NoMemory>
     requires { n ≤ 256 }
-    ensures { IfOk result (λ made. made ≡ generated_thread n 0 ∷ generated_thread n 1 ∷ generated_thread n 2
+    ensures { IfOk result
+        (λ made. made ≡ generated_thread n 0 ∷ generated_thread n 1 ∷ generated_thread n 2
         ∷ generated_thread n 3 ∷ []) }
 {
     let mut made = Items::new(alloc);
@@ -127,7 +129,7 @@ fn traps(alloc: Global) -> Result<Faults, NoMemory>
     ]?))
 }
 
-/// A trap in a burst, after 40 turns.
+/// A trap in a burst, after 40 instructions.
 fn trap(burst: u32) -> Fault
     ensures { result ≡ trap_at burst }
 {
@@ -182,37 +184,37 @@ fn script(n: u32, thread: u32, alloc: Global) -> Result<PartOps, NoMemory>
     ensures { IfOk result (λ made. made ≡ ops_to thread n) }
 {
     let mut made = Items::new(alloc);
-    for place in 0..n {
-        made.push(operation(thread, place, alloc)?)?;
+    for index in 0..n {
+        made.push(operation(thread, index, alloc)?)?;
     }
     Ok(made)
 }
 
-/// The operation of a thread, 0 to 3, at a place of its script: a part and what is asked of it, by which of six it is.
-fn operation(thread: u32, place: u32, alloc: Global) -> Result<(u32, Op), NoMemory>
+/// The operation of a thread, 0 to 3, at an index of its script: one of six kinds, with its part.
+fn operation(thread: u32, index: u32, alloc: Global) -> Result<(u32, Op), NoMemory>
     requires number { thread < 4 }
-    requires place { place < 256 }
-    ensures { IfOk result (λ made. made ≡ generated_op thread place ((thread + place) % 6)) }
+    requires index { index < 256 }
+    ensures { IfOk result (λ made. made ≡ generated_op thread index ((thread + index) % 6)) }
 {
-    match (thread + place) % 6 {
+    match (thread + index) % 6 {
         0 => Ok((
             0,
             Op::Write {
-                first: (16 * thread + place) % 64,
-                words: words(vec![in alloc; 1000 * thread + place; 16]?),
+                first: (16 * thread + index) % 64,
+                words: words(vec![in alloc; 1000 * thread + index; 16]?),
             },
         )),
         1 => Ok((
             0,
             Op::Read {
-                first: (16 * thread + place + 63) % 64,
+                first: (16 * thread + index + 63) % 64,
                 count: 1,
             },
         )),
         2 => Ok((
             1,
             Op::Send {
-                frame: words(vec![in alloc; thread, place]?),
+                frame: words(vec![in alloc; thread, index]?),
             },
         )),
         3 => Ok((1, Op::Recv)),
@@ -220,21 +222,21 @@ fn operation(thread: u32, place: u32, alloc: Global) -> Result<(u32, Op), NoMemo
             2,
             Op::Set {
                 key: 1,
-                value: place % 11,
+                value: index % 11,
             },
         )),
         _ => Ok((2, Op::Get { key: 1 })),
     }
 }
 
-/// The list of a vector's words.
+/// A vector as a list of words.
 fn words(items: Vec<u32>) -> Words
     ensures { result ≡ items.items }
 {
     Items::from_vec(items)
 }
 
-/// The name of bytes that are one.
+/// The name that these bytes form.
 fn known_name(bytes: &[u8]) -> Name
     requires { is_name bytes.now ≡ true }
     ensures { result ≡ bytes.now }

@@ -1,5 +1,5 @@
-//! The scenario that the program makes for a number: three parts with the reference drivers, four threads, as many
-//! operations a thread as the number says, and eight traps in the disk's driver.
+//! The scenario that the program generates for a number: three parts with the reference drivers, four threads with that
+//! number of operations each, and eight traps in the disk's driver.
 #![tactic(auto)]
 
 mod generated;

@@ -58,7 +58,7 @@ pub fn block_driver(alloc: Global) -> Result<Image, NoMemory>
     })
 }
 
-/// Its text words.
+/// The text words of the block driver.
 fn block_text(alloc: Global) -> Result<Words, NoMemory>
     ensures { IfOk result (λ made. made ≡ block_words) }
 {
@@ -79,14 +79,14 @@ pub fn net_driver(alloc: Global) -> Result<Image, NoMemory>
     })
 }
 
-/// Its text words.
+/// The text words of the net driver.
 fn net_text(alloc: Global) -> Result<Words, NoMemory>
     ensures { IfOk result (λ made. made ≡ net_words) }
 {
     words_of(alloc, &NET_TEXT)
 }
 
-/// A sound driver: each sample is played at once.
+/// A sound driver: it plays each sample at once.
 #[tactic(auto, using(crate::proofs::Limits::sound_is_valid))]
 pub fn sound_driver(alloc: Global) -> Result<Image, NoMemory>
     ensures made { IfOk result (λ made. made ≡ sound_image) }
@@ -100,7 +100,7 @@ pub fn sound_driver(alloc: Global) -> Result<Image, NoMemory>
     })
 }
 
-/// Its text words.
+/// The text words of the sound driver.
 fn sound_text(alloc: Global) -> Result<Words, NoMemory>
     ensures { IfOk result (λ made. made ≡ sound_words) }
 {

@@ -1,4 +1,4 @@
--- The definition's count of items is the length of the list that is read.
+-- The definition's count of items is the length of the list read.
 use Rattle.std.proofs.Common.{◌≡◌, List, [], ◌∷◌, length, refl, arith}
 use Rattle.serde_json.specs.View.{items_view}
 use Rattle.serde_json.specs.declared.value.Value.{Value}

@@ -20,7 +20,7 @@ all_digits (c ∷ cs) h = (
   all_digits cs (and_true (is_hex_digit c) (list_all is_hex_digit cs) h).1,
 )
 
--- a plus is no digit
+-- a plus sign is no digit
 no_plus_digit : is_hex_digit 43 ≡ true → ⊥
 no_plus_digit h = cc h
 

@@ -1,4 +1,4 @@
--- The bytes that `Value::from_slice` takes for text are those that the definition takes for text.
+-- `Value::from_slice` and the definition accept the same bytes as text.
 use Rattle.std.proofs.Common.{◌≡◌, ℕ, Bool, true, false, ◌&&◌, List, refl, Some, None}
 use Rattle.std.specs.Prelude.{IsUtf8, chars, Ok}
 use Rattle.std.proofs.lemmas.Str.{encodes-chars, scalars-chars}
@@ -20,7 +20,7 @@ test_from_text : (bytes : List ℕ) → IsUtf8 bytes → is_utf8 bytes ≡ true
 unfolding is_utf8
 test_from_text bytes h = rw (scalars-chars bytes h) ((bytes_eq-Decides _ _).1 (encodes-chars bytes h))
 
--- a text that is read as JSON
+-- a text that reads as JSON
 pub is_json : (bytes : List ℕ) (d : Data) → IsUtf8 bytes → read bytes ≡ Some d → json_of bytes ≡ Ok d
 unfolding json_of
 is_json bytes d text h = rw (test_from_text bytes text, h) refl
@@ -30,6 +30,6 @@ unfolding json_of
 no_json_by bytes true e h = rw (e, h (text_from_test bytes e)) refl
 no_json_by bytes false e h = rw e refl
 
--- bytes that are no text, or no JSON
+-- bytes that are not text, or not JSON
 pub is_no_json : (bytes : List ℕ) → (IsUtf8 bytes → read bytes ≡ None) → json_of bytes ≡ bad fault.NotJson
 is_no_json bytes h = no_json_by bytes (is_utf8 bytes) refl h

@@ -1,4 +1,4 @@
--- An object has only known members where each name of the map is known.
+-- An object has only known members if each name of the map is known.
 use Rattle.std.proofs.Common.{◌≡◌, ◌↔◌, Bool, true, false, ◌&&◌, List, [], ◌∷◌, map, refl, ap, subst}
 use Rattle.std.specs.Prelude.{IsTrue, All, String, string_bytes}
 use Rattle.std.specs.List.{list_all}

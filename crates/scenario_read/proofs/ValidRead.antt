@@ -1,4 +1,4 @@
--- What a reader gives keeps its limits, since what the definition gives does.
+-- What a reader returns is within its limits, since what the definition returns is.
 use Rattle.std.proofs.Common.{subst}
 use Rattle.std.specs.Prelude.{Result, Ok, Err, IfOk}
 use Rattle.serde_json.specs.Data.{Data}

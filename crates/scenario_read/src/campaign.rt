@@ -1,4 +1,4 @@
-//! Campaigns: a scenario, one of its parts, and the faults that strike it.
+//! Campaigns: a scenario, one of its parts, and the faults that strike that part.
 
 ghost use Rattle.std.specs.Prelude.{◌≡◌, ℕ, ◌-◌, ◌<◌, ◌^◌, List, IfOk, length, nat_lt};
 ghost use Rattle.serde_json.specs.View.{view};
@@ -15,7 +15,7 @@ ghost use Rattle.scenario_read.specs.Gives.{Gives};
 use crate::faults::member_faults_of;
 use crate::fields::{check_keys, field, number_at};
 use crate::scenario::{json_of, scenario_of};
-use crate::stop::{ScenarioFault, at, bad_here, behind};
+use crate::stop::{ScenarioFault, at, bad_here, within};
 use asm_defs::keys::Key;
 use input_defs::input::{InputFault, PathStep};
 use nook_data::campaign::Campaign;
@@ -24,12 +24,12 @@ use nook_data::scenario::{PartSpec, Scenario, ThreadSpec};
 use serde_json::Value;
 use std::alloc::Global;
 
-/// The campaign of a JSON text. It keeps its limits.
+/// Reads the campaign of a JSON text. It is within its limits.
 ///
 /// # Errors
 ///
-/// The first fault of the text with its path, or want of memory. The scenario comes first, then the part, then the
-/// faults, then the operations of all threads together, then the faults that the part has of its own.
+/// `Bad` with the first input error and its path; `NoMemory` if memory runs out. Errors in the scenario come first,
+/// then the part, the faults, the number of operations of all threads, and the number of the part's own faults.
 #[tactic(auto, unfolding(input_defs::specs::CampaignReading::campaign_from), using(crate::proofs::ValidRead::valid_campaign))]
 pub fn read_campaign(alloc: Global, bytes: &[u8]) -> Result<Campaign, ScenarioFault>
     ensures gives { Gives result (campaign_from bytes.now) }
@@ -39,7 +39,7 @@ pub fn read_campaign(alloc: Global, bytes: &[u8]) -> Result<Campaign, ScenarioFa
     campaign_of(alloc, &value)
 }
 
-/// A campaign: its scenario, the place of the struck part and the faults, and then the limits of the scenario.
+/// A campaign: its scenario, the index of the struck part and the faults, followed by the scenario's limits.
 #[tactic(auto, unfolding(input_defs::specs::CampaignReading::campaign_of))]
 fn campaign_of(alloc: Global, value: &Value) -> Result<Campaign, ScenarioFault>
     ensures { Gives result (campaign_of (view value.now)) }
@@ -61,9 +61,10 @@ pub fn base_of(alloc: Global, value: &Value) -> Result<Scenario, ScenarioFault>
     at(Key::Base, scenario_of(alloc, inside))
 }
 
-/// The place of the struck part of a campaign's scenario.
+/// The index of the struck part in a campaign's scenario.
 pub fn struck_part(alloc: Global, value: &Value, base: &Scenario) -> Result<u32, ScenarioFault>
-    ensures gives { Gives result (number_at key.Part 0 (length base.now.parts - 1) (view value.now)) }
+    ensures gives { Gives result
+        (number_at key.Part 0 (length base.now.parts - 1) (view value.now)) }
     ensures few_parts { IfOk result (λ _. length base.now.parts < 2 ^ 32) }
 {
     let Ok(count) = u32::try_from(base.parts.len()) else {
@@ -74,7 +75,7 @@ pub fn struck_part(alloc: Global, value: &Value, base: &Scenario) -> Result<u32,
     Ok(part as u32)
 }
 
-/// The scenario has no more operations than a campaign runs, and its part at a place has room for one more fault.
+/// Checks that a campaign may run all operations, and that the part with this index has room for one more fault.
 fn check_base(alloc: Global, base: &Scenario, part: u32) -> Result<(), ScenarioFault>
     ensures { Gives result (check_base base.now part) }
 {
@@ -83,7 +84,7 @@ fn check_base(alloc: Global, base: &Scenario, part: u32) -> Result<(), ScenarioF
     check_faults(alloc, part, own >= MOST_FAULTS)
 }
 
-/// The threads have at most 64 operations in all.
+/// Checks that the threads have at most 64 operations in all.
 pub fn check_ops(alloc: Global, threads: &[ThreadSpec]) -> Result<(), ScenarioFault>
     ensures { Gives result (check_ops threads.now) }
 {
@@ -91,20 +92,21 @@ pub fn check_ops(alloc: Global, threads: &[ThreadSpec]) -> Result<(), ScenarioFa
     at(Key::Base, at(Key::Threads, checked))
 }
 
-/// Too many faults of the part at a place are refused.
+/// Refuses too many faults of the part with this index.
 pub fn check_faults(alloc: Global, part: u32, too_many: bool) -> Result<(), ScenarioFault>
     ensures own { (own : List Fault) → too_many ≡ nat_lt (MOST_FAULTS - 1) (length own)
         → Gives result (check_own_faults part own) }
-    ensures count { (count : ℕ) → too_many ≡ nat_lt MOST_FAULTS count → Gives result (check_count part count) }
+    ensures count { (count : ℕ) → too_many ≡ nat_lt MOST_FAULTS count
+        → Gives result (check_count part count) }
 {
     let checked = at(Key::Faults, refuse_if(alloc, too_many));
     at(
         Key::Base,
-        at(Key::Parts, behind(PathStep::Place(part), checked)),
+        at(Key::Parts, within(PathStep::Position(part), checked)),
     )
 }
 
-/// What is too long is refused.
+/// Refuses what is too long.
 fn refuse_if(alloc: Global, too_long: bool) -> Result<(), ScenarioFault>
     ensures { Gives result (refuse_if too_long fault.TooMany) }
 {
@@ -130,11 +132,11 @@ fn has_many_ops(threads: &[ThreadSpec]) -> bool
     false
 }
 
-/// The number of faults that the part at a place has of its own, 0 where there is no such part.
-pub fn own_fault_count(parts: &[PartSpec], place: usize) -> usize
-    ensures { result ≡ length (faults_at parts.now place) }
+/// The number of own faults of the part with this index, or 0 if there is no such part.
+pub fn own_fault_count(parts: &[PartSpec], index: usize) -> usize
+    ensures { result ≡ length (faults_at parts.now index) }
 {
-    match parts.get(place) {
+    match parts.get(index) {
         None => 0,
         Some(part) => part.faults.len(),
     }

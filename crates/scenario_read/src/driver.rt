@@ -39,9 +39,10 @@ pub fn driver_of(alloc: Global, value: &Value, class: Class) -> Result<Image, Sc
     Ok(image)
 }
 
-/// The image under `asm`, where that key is there, else the one under `image`.
+/// The image under `asm` if that key occurs, else the one under `image`.
 fn driver_image(alloc: Global, value: &Value) -> Result<Image, ScenarioFault>
-    ensures { Gives result (driver_image (get (key_text key.Asm) (view value.now)) (view value.now)) }
+    ensures { Gives result
+        (driver_image (get (key_text key.Asm) (view value.now)) (view value.now)) }
 {
     match value.get(key_text(Key::Asm)) {
         Some(text) => at(Key::Asm, asm_of(alloc, text)),

@@ -15,7 +15,7 @@ use crate::lists::{ItemReader, read_list};
 use crate::stop::{ScenarioFault, at, bad_here};
 use asm_defs::keys::Key;
 use input_defs::input::{FaultName, InputFault};
-use nook_data::limits::{MOST_BAD_BLOCKS, MOST_CAMPAIGN_FAULTS, MOST_FAULTS, MOST_TURNS};
+use nook_data::limits::{MOST_BAD_BLOCKS, MOST_CAMPAIGN_FAULTS, MOST_FAULTS, MOST_INSTRUCTIONS};
 use nook_data::scenario::{BadBlock, BadBlocks, Fault, FaultKind, Faults};
 use serde_json::Value;
 use std::alloc::Global;
@@ -52,7 +52,7 @@ impl ItemReader for FaultReader {
     }
 }
 
-/// A fault: the burst, the turns before it, its kind and the keys of that kind.
+/// A fault: the burst, the instructions before it, its kind and the keys of that kind.
 #[tactic(auto, unfolding(input_defs::specs::PartReading::fault_of))]
 fn fault_of(alloc: Global, value: &Value) -> Result<Fault, ScenarioFault>
     ensures { Gives result (fault_of (view value.now)) }
@@ -64,7 +64,13 @@ fn fault_of(alloc: Global, value: &Value) -> Result<Fault, ScenarioFault>
     )?;
     check_keys(alloc, value, fault_keys(name))?;
     let burst = number_at(alloc, value, Key::Burst, 1, 4_294_967_295)? as u32;
-    let after = number_at(alloc, value, Key::After, 0, u64::from(MOST_TURNS) - 1)? as u32;
+    let after = number_at(
+        alloc,
+        value,
+        Key::After,
+        0,
+        u64::from(MOST_INSTRUCTIONS) - 1,
+    )? as u32;
     let kind = fault_kind(alloc, value, name)?;
     Ok(Fault { burst, after, kind })
 }
@@ -105,14 +111,14 @@ pub fn fault_kind(alloc: Global, value: &Value, name: FaultName) -> Result<Fault
     }
 }
 
-/// Up to 64 bad blocks of a disk of so many blocks.
+/// Up to 64 bad blocks of a disk with `blocks` blocks.
 pub fn bad_blocks_of(alloc: Global, value: &Value, blocks: u32) -> Result<BadBlocks, ScenarioFault>
     ensures { Gives result (bad_blocks_of blocks (view value.now)) }
 {
     read_list(alloc, &BadBlockReader { blocks }, value, 0, MOST_BAD_BLOCKS)
 }
 
-/// Reads bad blocks of a disk of so many blocks.
+/// Reads bad blocks of a disk with this many blocks.
 #[derive(Drop)]
 struct BadBlockReader {
     blocks: u32,
@@ -133,7 +139,7 @@ impl ItemReader for BadBlockReader {
     }
 }
 
-/// A bad block: its number, and the commands that it still does.
+/// A bad block: its number, and how many commands it still executes.
 #[tactic(auto, unfolding(input_defs::specs::PartReading::bad_block_of))]
 fn bad_block_of(alloc: Global, value: &Value, blocks: u32) -> Result<BadBlock, ScenarioFault>
     ensures { Gives result (bad_block_of blocks (view value.now)) }

@@ -1,4 +1,4 @@
-//! The fields of JSON objects, each of its kind and in its range.
+//! The fields of JSON objects, each of the right kind and in its range.
 
 ghost use Rattle.std.specs.Prelude.{◌≡◌, ◌↔◌, All, IsTrue, IsSome, Ok, Some, None, IfOk, IfErr, string_bytes};
 ghost use Rattle.serde_json.specs.View.{view, members_view};
@@ -18,7 +18,7 @@ use input_defs::input::InputFault;
 use serde_json::{Map, Value};
 use std::alloc::Global;
 
-/// The value is an object.
+/// Checks that the value is an object.
 pub fn check_object(alloc: Global, value: &Value) -> Result<(), ScenarioFault>
     ensures ok { IfOk result (λ _. IsSome (as_object (view value.now))) }
     ensures err { IfErr result (λ stop. Fails stop (is_object (view value.now))) }
@@ -30,7 +30,7 @@ pub fn check_object(alloc: Global, value: &Value) -> Result<(), ScenarioFault>
     }
 }
 
-/// The value is an object that has no other keys than these.
+/// Checks that the value is an object with no keys but these.
 pub fn check_keys(alloc: Global, value: &Value, known: &[Key]) -> Result<(), ScenarioFault>
     ensures { Gives result (object_with known.now (view value.now)) }
 {
@@ -41,7 +41,7 @@ pub fn check_keys(alloc: Global, value: &Value, known: &[Key]) -> Result<(), Sce
     }
 }
 
-/// Whether an object has no other members than these.
+/// Whether an object has no members but these.
 #[tactic(auto, using(crate::proofs::Members::all_known_is))]
 fn has_only(members: &Map<String, Value>, known: &[Key]) -> bool
     ensures { result ≡ all_known known.now (members_view members.now.entries) }
@@ -49,9 +49,10 @@ fn has_only(members: &Map<String, Value>, known: &[Key]) -> bool
     has_only_names(members, known)
 }
 
-/// Whether each name of a member is one of these keys.
+/// Whether the name of each member is one of these keys.
 fn has_only_names(members: &Map<String, Value>, known: &[Key]) -> bool
-    ensures { IsTrue result ↔ All (λ name. IsTrue (is_key known.now (string_bytes name))) (keys members.now) }
+    ensures { IsTrue result ↔ All (λ name. IsTrue (is_key known.now (string_bytes name)))
+        (keys members.now) }
 {
     members.keys().all(|name| is_key(known, name.as_str()))
 }
@@ -70,9 +71,10 @@ pub fn has_key(value: &Value, key: Key) -> bool
     value.get(key_text(key)).is_some()
 }
 
-/// The value under a key that must be there.
+/// The value under a required key.
 pub fn field<'a>(alloc: Global, value: &'a Value, key: Key) -> Result<&'a Value, ScenarioFault>
-    ensures ok { IfOk result (λ inside. get (key_text key) (view value.now) ≡ Some (view inside.now)) }
+    ensures ok { IfOk result
+        (λ inside. get (key_text key) (view value.now) ≡ Some (view inside.now)) }
     ensures absent { IfErr result (λ _. get (key_text key) (view value.now) ≡ None) }
     ensures err { IfErr result (IsMissing key) }
 {
@@ -106,7 +108,7 @@ pub fn number_in(alloc: Global, value: &Value, low: u64, high: u64) -> Result<u6
     }
 }
 
-/// The whole number from `low` to `high` under a key that must be there.
+/// The whole number from `low` to `high` under a required key.
 pub fn number_at(
     alloc: Global,
     value: &Value,
@@ -120,7 +122,7 @@ pub fn number_at(
     at(key, number_in(alloc, inside, low, high))
 }
 
-/// The whole number from `low` to `high` under a key, or `default` where the key is not there.
+/// The whole number from `low` to `high` under a key, or `default` if the key is absent.
 pub fn number_or(
     alloc: Global,
     value: &Value,
@@ -137,7 +139,7 @@ pub fn number_or(
     }
 }
 
-/// The word under a key that must be there.
+/// The word under a required key.
 pub fn word_at(alloc: Global, value: &Value, key: Key) -> Result<u32, ScenarioFault>
     ensures { Gives result (number_at key 0 4294967295 (view value.now)) }
 {
@@ -155,7 +157,7 @@ fn flag_in(alloc: Global, value: &Value) -> Result<bool, ScenarioFault>
     }
 }
 
-/// Whether the value under a key is true, or `default` where the key is not there.
+/// Whether the value under a key is true, or `default` if the key is absent.
 pub fn flag_or(alloc: Global, value: &Value, key: Key, default: bool) -> Result<bool, ScenarioFault>
     ensures { Gives result (optional key flag_of default (view value.now)) }
 {

@@ -4,7 +4,7 @@ ghost use Rattle.std.specs.Prelude.{◌≡◌, [], IfOk, length, true};
 ghost use Rattle.std.specs.List.{list_all};
 ghost use Rattle.std.specs.Str.Parse.{digits_value};
 ghost use Rattle.serde_json.specs.View.{view};
-ghost use Rattle.input_defs.specs.ImageReading.{known_class, entries_of, hex_word, image_from, image_of, places_from};
+ghost use Rattle.input_defs.specs.ImageReading.{known_class, entries_of, hex_word, image_from, image_of, addresses_from};
 ghost use Rattle.input_defs.specs.ImageReading.{words_of};
 ghost use Rattle.input_defs.specs.Views.Readings.{is_hex_digit, text_word};
 ghost use Rattle.nook_data.specs.Valid.{IsValidImage};
@@ -23,11 +23,11 @@ use nook_data::scenario::Image;
 use serde_json::Value;
 use std::alloc::Global;
 
-/// The image of a JSON text, as `nooks asm` writes it. It keeps the limits of images.
+/// Reads the image of a JSON text, as `nooks asm` writes it. It is within the limits of images.
 ///
 /// # Errors
 ///
-/// The first fault of the text with its path, or want of memory.
+/// `Bad` with the first input error and its path; `NoMemory` if memory runs out.
 #[tactic(auto, unfolding(input_defs::specs::ImageReading::image_from), using(crate::proofs::ValidRead::valid_image))]
 pub fn read_image(alloc: Global, bytes: &[u8]) -> Result<Image, ScenarioFault>
     ensures gives { Gives result (image_from bytes.now) }
@@ -76,25 +76,25 @@ pub fn known_class(alloc: Global, value: &Value) -> Result<Class, ScenarioFault>
     }
 }
 
-/// Exactly the entries of a class, in the class's order, each a place in the text.
+/// Exactly the entries of a class, in the class's order, each an address in the text.
 fn entries_of(alloc: Global, value: &Value, class: Class) -> Result<Words, ScenarioFault>
     ensures { Gives result (entries_of class (view value.now)) }
 {
     let keys = entry_keys(class);
     check_keys(alloc, value, keys)?;
-    places_of(alloc, value, keys)
+    addresses_of(alloc, value, keys)
 }
 
-/// The places under some keys.
-fn places_of(alloc: Global, value: &Value, keys: &[Key]) -> Result<Words, ScenarioFault>
-    ensures { Gives result (places_from keys.now [] (view value.now)) }
+/// The addresses under some keys.
+fn addresses_of(alloc: Global, value: &Value, keys: &[Key]) -> Result<Words, ScenarioFault>
+    ensures { Gives result (addresses_from keys.now [] (view value.now)) }
 {
-    let mut places = Words::new(alloc);
+    let mut addresses = Words::new(alloc);
     for key in keys {
-        let place = number_at(alloc, value, *key, 0, u64::from(TEXT_WORDS) - 1)?;
-        places.push(place as u32)?;
+        let address = number_at(alloc, value, *key, 0, u64::from(TEXT_WORDS) - 1)?;
+        addresses.push(address as u32)?;
     }
-    Ok(places)
+    Ok(addresses)
 }
 
 /// Up to 2,048 words.
@@ -123,7 +123,7 @@ impl ItemReader for HexReader {
     }
 }
 
-/// The word of exactly eight hexadecimal digits of either case.
+/// The word that exactly eight hexadecimal digits write, in either case.
 #[tactic(auto, unfolding(input_defs::specs::ImageReading::hex_word))]
 fn hex_word(alloc: Global, digits: &str) -> Result<u32, ScenarioFault>
     ensures { Gives result (hex_word digits.now) }

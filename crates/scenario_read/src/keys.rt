@@ -1,4 +1,4 @@
-//! Which keys an object has, and names that stand for one of a few things.
+//! The keys of each object, and what the names in inputs denote.
 
 ghost use Rattle.std.specs.Prelude.{◌≡◌, ◌∷◌};
 ghost use Rattle.input_defs.specs.PartReading.{fault_named, fault_keys, part_keys};
@@ -9,7 +9,7 @@ use asm_defs::keys::Key;
 use input_defs::input::{FaultName, OpName, ScheduleName};
 use nook_data::classes::Class;
 
-/// The keys of a part of a class, in a scenario of a version.
+/// The keys of a part, by its class and the scenario's version.
 pub fn part_keys(version: u32, class: Class) -> &'static [Key]
     ensures { result.now ≡ part_keys version class }
 {
@@ -56,7 +56,7 @@ pub fn fault_keys(name: FaultName) -> &'static [Key]
     }
 }
 
-/// The keys of a fault of a kind that has no burst and no turns before it.
+/// The keys of a fault of a kind, without the burst and the instructions before it.
 pub fn kind_keys(name: FaultName) -> &'static [Key]
     ensures { result.now ≡ key.Kind ∷ fault_keys name }
 {
@@ -93,7 +93,7 @@ pub fn op_keys(name: OpName) -> &'static [Key]
     }
 }
 
-/// The kind of fault of a name.
+/// The kind of fault that a name denotes.
 #[tactic(auto, unfolding(input_defs::specs::PartReading::fault_named))]
 pub fn fault_named(name: &str) -> Option<FaultName>
     ensures { result ≡ fault_named name.now }
@@ -108,7 +108,7 @@ pub fn fault_named(name: &str) -> Option<FaultName>
     }
 }
 
-/// The kind of schedule of a name.
+/// The kind of schedule that a name denotes.
 #[tactic(auto, unfolding(input_defs::specs::ScenarioReading::schedule_named))]
 pub fn schedule_named(name: &str) -> Option<ScheduleName>
     ensures { result ≡ schedule_named name.now }
@@ -121,7 +121,7 @@ pub fn schedule_named(name: &str) -> Option<ScheduleName>
     }
 }
 
-/// The operation of a name.
+/// The operation that a name denotes.
 #[tactic(auto, unfolding(input_defs::specs::ScenarioReading::op_named))]
 pub fn op_named(name: &str) -> Option<OpName>
     ensures { result ≡ op_named name.now }

@@ -1,7 +1,7 @@
-//! Scenarios, campaigns and images from JSON, and the line that tells why an input is refused.
+//! Reads scenarios, campaigns and images from JSON, and writes the line that reports why an input is refused.
 //!
-//! There is one reader for each kind of object, and each gives what the definition of that object gives: the same
-//! value, or the same first fault at the same place.
+//! Each kind of object has one reader. It returns what the definition of that object gives: the same value, or the same
+//! first input error with the same path.
 #![tactic(auto)]
 
 mod campaign;

@@ -1,4 +1,4 @@
-//! The line that tells why an input is refused.
+//! The line that reports why an input is refused.
 
 ghost use Rattle.std.specs.Prelude.{◌≡◌, ◌∷◌, ◌++◌, codes, IfOk, OnOk, flat_map, string_bytes, decimal};
 ghost use Rattle.input_defs.specs.Faults.{asm_number, fault_line, fault_text, path_text, step_text};
@@ -10,11 +10,11 @@ use nook_data::memory::NoMemory;
 use std::alloc::Global;
 use std::fmt::Write;
 
-/// The line that tells a fault, its number, its name and its path, with a line feed.
+/// The line that reports an input error: its number, its name and its path, with a line feed.
 ///
 /// # Errors
 ///
-/// Want of memory.
+/// If memory runs out.
 #[tactic(auto, unfolding(input_defs::specs::Faults::fault_line))]
 pub fn fault_line(alloc: Global, refusal: &Refusal) -> Result<String, NoMemory>
     ensures { IfOk result (λ line. string_bytes line ≡ fault_line refusal.now) }
@@ -28,7 +28,7 @@ pub fn fault_line(alloc: Global, refusal: &Refusal) -> Result<String, NoMemory>
     Ok(line)
 }
 
-/// Adds a fault's number and name; for an assembler text its own number and its line too.
+/// Adds an input error's number and name, and for an assembler error its own number and its line.
 fn push_fault(line: &mut String, fault: InputFault) -> Result<(), NoMemory>
     ensures { OnOk result (string_bytes line.new ≡ string_bytes line.old ++ fault_text fault) }
 {
@@ -47,17 +47,18 @@ fn push_fault(line: &mut String, fault: InputFault) -> Result<(), NoMemory>
     Ok(())
 }
 
-/// Adds the fault of an assembler text.
+/// Adds an assembler error.
 fn push_asm(line: &mut String, kind: AsmKind, at: u64) -> Result<(), NoMemory>
     ensures { OnOk result (string_bytes line.new
-        ≡ string_bytes line.old ++ (codes "8 bad_asm " ++ decimal (asm_number kind) ++ codes " line " ++ decimal at)) }
+        ≡ string_bytes line.old
+        ++ (codes "8 bad_asm " ++ decimal (asm_number kind) ++ codes " line " ++ decimal at)) }
 {
     let number = asm_number(kind);
     write!(line, "8 bad_asm {number} line {at}")?;
     Ok(())
 }
 
-/// The number of a fault of an assembler text.
+/// The number of an assembler error.
 fn asm_number(kind: AsmKind) -> u32
     ensures { result ≡ asm_number kind }
 {
@@ -74,7 +75,7 @@ fn asm_number(kind: AsmKind) -> u32
     }
 }
 
-/// Adds a path: the keys and places, each behind a `/`; the root is `/` alone.
+/// Adds a path: the keys and indexes, each after a `/`; the root is a single `/`.
 fn push_path(line: &mut String, path: &[PathStep]) -> Result<(), NoMemory>
     ensures { OnOk result (string_bytes line.new ≡ string_bytes line.old ++ path_text path.now) }
 {
@@ -87,7 +88,8 @@ fn push_path(line: &mut String, path: &[PathStep]) -> Result<(), NoMemory>
 
 /// Adds the steps of a path.
 fn push_steps(line: &mut String, path: &[PathStep]) -> Result<(), NoMemory>
-    ensures { OnOk result (string_bytes line.new ≡ string_bytes line.old ++ flat_map step_text path.now) }
+    ensures { OnOk result
+        (string_bytes line.new ≡ string_bytes line.old ++ flat_map step_text path.now) }
 {
     for step in path {
         push_step(line, *step)?;
@@ -95,7 +97,7 @@ fn push_steps(line: &mut String, path: &[PathStep]) -> Result<(), NoMemory>
     Ok(())
 }
 
-/// Adds a key or a place behind a `/`.
+/// Adds a `/` and a key or an index.
 fn push_step(line: &mut String, step: PathStep) -> Result<(), NoMemory>
     ensures { OnOk result (string_bytes line.new ≡ string_bytes line.old ++ step_text step) }
 {
@@ -104,7 +106,7 @@ fn push_step(line: &mut String, step: PathStep) -> Result<(), NoMemory>
             line.push_str("/")?;
             line.push_str(key_text(key))?;
         }
-        PathStep::Place(place) => write!(line, "/{place}")?,
+        PathStep::Position(index) => write!(line, "/{index}")?,
     }
     Ok(())
 }

@@ -1,4 +1,4 @@
-//! Lists of JSON values, and the items that are plain numbers.
+//! Lists of JSON values, and readers of plain numbers.
 
 ghost use Rattle.std.specs.Prelude.{◌≡◌, ◌≤◌, [], length, IfOk, Result};
 ghost use Rattle.serde_json.specs.View.{view, items_view};
@@ -6,14 +6,14 @@ ghost use Rattle.input_defs.specs.Reading.{items_from, list_of, whole_number, nu
 ghost use Rattle.scenario_read.specs.Gives.{Gives};
 
 use crate::fields::number_in;
-use crate::stop::{ScenarioFault, bad_here, behind};
+use crate::stop::{ScenarioFault, bad_here, within};
 use input_defs::input::{InputFault, PathStep};
 use nook_data::lists::{Items, Words};
 use nook_data::memory::NoMemory;
 use serde_json::Value;
 use std::alloc::Global;
 
-/// Reads the items of a list, each with those that stand before it at hand.
+/// Reads the items of a list. The reader of an item also sees the items before it.
 pub trait ItemReader {
     ghost use Rattle.std.specs.Prelude.{List, Result};
     ghost use Rattle.serde_json.specs.Data.{Data};
@@ -21,12 +21,12 @@ pub trait ItemReader {
     ghost use Rattle.input_defs.specs.declared.input.Refusal.{Refusal};
     ghost use Rattle.scenario_read.specs.Gives.{Gives};
 
-    /// What an item is read as.
+    /// The type that an item is read as.
     type Item: Drop;
 
     ghost item_of: { Self → List Self.Item → Data → Result Self.Item Refusal };
 
-    /// Reads one item, behind the earlier ones.
+    /// Reads one item, after the earlier ones.
     fn read(
         &self,
         alloc: Global,
@@ -60,7 +60,7 @@ pub fn read_list<R: ItemReader>(
     read_items(alloc, reader, values.as_slice())
 }
 
-/// The items in order.
+/// Reads the items in order.
 fn read_items<R: ItemReader>(
     alloc: Global,
     reader: &R,
@@ -70,11 +70,11 @@ fn read_items<R: ItemReader>(
     ensures { Gives result (items_from (R.item_of reader.now) [] 0 (items_view values.now)) }
 {
     let mut items = list_for(alloc, values.len())?;
-    let mut place = 0;
+    let mut index = 0;
     for value in values {
         let read = reader.read(alloc, &items, value);
-        items.push(behind(PathStep::Place(place), read)?)?;
-        place += 1;
+        items.push(within(PathStep::Position(index), read)?)?;
+        index += 1;
     }
     Ok(items)
 }

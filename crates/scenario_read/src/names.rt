@@ -36,10 +36,11 @@ pub fn thread_name(
     new_name(alloc, name, has_thread(earlier, name))
 }
 
-/// A name that is told to be taken or not.
+/// A valid name, if it is not `taken` by an earlier part or thread.
 #[tactic(auto, unfolding(input_defs::specs::PartReading::new_name))]
 fn new_name(alloc: Global, name: &str, taken: bool) -> Result<Name, ScenarioFault>
-    ensures { (earlier : List (List ℕ)) → taken ≡ is_among earlier name.now → Gives result (new_name earlier name.now) }
+    ensures { (earlier : List (List ℕ)) → taken ≡ is_among earlier name.now
+        → Gives result (new_name earlier name.now) }
 {
     match Name::new(name.as_bytes()) {
         None => bad_here(alloc, InputFault::WrongKind),

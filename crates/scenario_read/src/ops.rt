@@ -19,14 +19,14 @@ use nook_data::lists::Words;
 use serde_json::Value;
 use std::alloc::Global;
 
-/// Up to 256 operations on parts below `parts`.
+/// Up to 256 operations on parts with indexes below `parts`.
 pub fn ops_of(alloc: Global, value: &Value, parts: u32) -> Result<PartOps, ScenarioFault>
     ensures { Gives result (ops_of parts (view value.now)) }
 {
     read_list(alloc, &OpReader { parts }, value, 0, MOST_OPS)
 }
 
-/// Reads operations on parts below `parts`.
+/// Reads operations on parts with indexes below `parts`.
 #[derive(Drop)]
 struct OpReader {
     parts: u32,
@@ -47,7 +47,7 @@ impl ItemReader for OpReader {
     }
 }
 
-/// An operation and its part. It is not checked against the part's class.
+/// An operation and its part. This does not check it against the part's class.
 #[tactic(auto, unfolding(input_defs::specs::ScenarioReading::op_of))]
 fn op_of(alloc: Global, value: &Value, parts: u32) -> Result<(u32, Op), ScenarioFault>
     ensures { Gives result (op_of parts (view value.now)) }
@@ -71,7 +71,7 @@ fn op_name(alloc: Global, value: &Value) -> Result<OpName, ScenarioFault>
     }
 }
 
-/// What an operation asks.
+/// What an operation asks for.
 #[tactic(auto, unfolding(input_defs::specs::ScenarioReading::op_by))]
 fn op_by(alloc: Global, value: &Value, name: OpName) -> Result<Op, ScenarioFault>
     ensures { Gives result (op_by name (view value.now)) }

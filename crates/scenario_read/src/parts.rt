@@ -55,7 +55,7 @@ impl ItemReader for PartReader {
     }
 }
 
-/// A part, behind the earlier parts.
+/// A part, after the earlier parts.
 #[tactic(auto, unfolding(input_defs::specs::PartReading::part_of))]
 fn part_of(
     alloc: Global,

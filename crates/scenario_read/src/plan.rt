@@ -21,14 +21,14 @@ use plan_defs::plan::Plan;
 use serde_json::Value;
 use std::alloc::Global;
 
-/// The campaign of a JSON text that may have the keys `members`, `every`, `guard` and `detail`. It keeps its limits.
+/// Reads a campaign from JSON that may have the keys `members`, `every`, `guard` and `detail`. It is within its limits.
 ///
 /// # Errors
 ///
-/// The first fault of the text with its path, or want of memory. An unknown key comes first, then the second of the
-/// keys `faults`, `members` and `every`, then the scenario, the part, what strikes, `guard` and `detail`, then the
-/// operations of all threads together, then the faults of the struck part with those of the longest member, and with a
-/// guard the first part that has no room for its traps.
+/// `Bad` with the first input error and its path; `NoMemory` if memory runs out. An unknown key comes first, then the
+/// second of the keys `faults`, `members` and `every`, then the scenario, the part, what strikes, `guard` and `detail`.
+/// After these come the operations of all threads together, then the faults of the struck part with those of the
+/// longest member, and with a guard the first part without room for its traps.
 #[tactic(auto, unfolding(input_defs::specs::PlanReading::plan_from), using(crate::proofs::ValidRead::valid_plan))]
 pub fn read_plan(alloc: Global, bytes: &[u8]) -> Result<Plan, ScenarioFault>
     ensures gives { Gives result (plan_from bytes.now) }
@@ -38,7 +38,7 @@ pub fn read_plan(alloc: Global, bytes: &[u8]) -> Result<Plan, ScenarioFault>
     plan_of(alloc, &value)
 }
 
-/// A campaign: its scenario, the place of the struck part, what strikes it and the options, and then the limits.
+/// A campaign: its scenario, the index of the struck part, what strikes it and the options, followed by the limits.
 #[tactic(auto, unfolding(input_defs::specs::PlanReading::plan_of))]
 fn plan_of(alloc: Global, value: &Value) -> Result<Plan, ScenarioFault>
     ensures { Gives result (plan_of (view value.now)) }
@@ -72,10 +72,11 @@ fn plan_of(alloc: Global, value: &Value) -> Result<Plan, ScenarioFault>
     })
 }
 
-/// At most one of the keys `faults`, `members` and `every` is there.
+/// Checks that at most one of the keys `faults`, `members` and `every` occurs.
 fn check_choice(alloc: Global, value: &Value) -> Result<(), ScenarioFault>
     ensures { let d = view value.now in
-        Gives result (check_choice (has_key key.Faults d) (has_key key.Members d) (has_key key.Every d)) }
+        Gives result (check_choice (has_key key.Faults d) (has_key key.Members d)
+        (has_key key.Every d)) }
 {
     let faults = has_key(value, Key::Faults);
     let members = has_key(value, Key::Members);
@@ -88,8 +89,8 @@ fn check_choice(alloc: Global, value: &Value) -> Result<(), ScenarioFault>
     Ok(())
 }
 
-/// The scenario has no more operations than a campaign runs, its part at a place has room for `more` faults, and with a
-/// guard each part has room for its traps too.
+/// Checks that a campaign may run all operations, and that the part with this index has room for `more` faults. With a
+/// guard, each part must have room for its traps too.
 fn check_base(
     alloc: Global,
     base: &Scenario,
@@ -106,7 +107,7 @@ fn check_base(
     check_guard(alloc, base.parts.as_slice(), part, more, guard)
 }
 
-/// With a guard each part has room for the faults that it gets and for its traps.
+/// Checks, if there is a guard, that each part has room for the faults that it gets and for its traps.
 fn check_guard(
     alloc: Global,
     parts: &[PartSpec],
@@ -124,7 +125,7 @@ fn check_guard(
     }
 }
 
-/// Each part has room for the faults that it gets and for its traps.
+/// Checks that each part has room for the faults that it gets and for its traps.
 #[tactic(auto, using(crate::proofs::Rooms::one_part))]
 fn check_traps(
     alloc: Global,
@@ -135,31 +136,32 @@ fn check_traps(
     requires { length parts.now < 2 ^ 32 }
     ensures { Gives result (check_traps struck more 0 parts.now) }
 {
-    let mut place = 0;
+    let mut index = 0;
     for part in parts {
-        let gets = more_faults(struck, more, place);
-        check_room(alloc, part, place, gets)?;
-        place += 1;
+        let gets = more_faults(struck, more, index);
+        check_room(alloc, part, index, gets)?;
+        index += 1;
     }
     Ok(())
 }
 
-/// How many faults a part gets: `more` where it is the struck one.
-fn more_faults(struck: u32, more: usize, place: u32) -> usize
-    ensures { result ≡ more_faults struck more place }
+/// How many faults a part gets: `more` if it is the struck one, else 0.
+fn more_faults(struck: u32, more: usize, index: u32) -> usize
+    ensures { result ≡ more_faults struck more index }
 {
-    if place == struck { more } else { 0 }
+    if index == struck { more } else { 0 }
 }
 
-/// The part at a place has room for `more` faults and for its traps.
-fn check_room(alloc: Global, part: &PartSpec, place: u32, more: usize) -> Result<(), ScenarioFault>
-    ensures { Gives result (check_count place (length part.now.faults + more + (part.now.limit + 1))) }
+/// Checks that the part with this index has room for `more` faults and for its traps.
+fn check_room(alloc: Global, part: &PartSpec, index: u32, more: usize) -> Result<(), ScenarioFault>
+    ensures { Gives result
+        (check_count index (length part.now.faults + more + (part.now.limit + 1))) }
 {
     let traps = part.limit as usize + 1;
-    check_faults(alloc, place, are_many(part.faults.len(), more, traps))
+    check_faults(alloc, index, are_many(part.faults.len(), more, traps))
 }
 
-/// Whether a part's own faults, those that it gets and its traps are more than 64.
+/// Whether a part's own faults, those that it gets and its traps exceed 64.
 #[tactic(auto, using(crate::proofs::Rooms::many))]
 fn are_many(own: usize, more: usize, traps: usize) -> bool
     ensures { result ≡ nat_lt MOST_FAULTS (own + more + traps) }

@@ -20,11 +20,11 @@ use nook_data::scenario::{Scenario, ScheduleSpec};
 use serde_json::Value;
 use std::alloc::Global;
 
-/// The scenario of a JSON text, of version 1 or 2. It keeps every limit.
+/// Reads the scenario of a JSON text, of version 1 or 2. It is within every limit.
 ///
 /// # Errors
 ///
-/// The first fault of the text with its path, or want of memory.
+/// `Bad` with the first input error and its path; `NoMemory` if memory runs out.
 #[tactic(auto, unfolding(input_defs::specs::ScenarioReading::scenario_from), using(crate::proofs::ValidRead::valid_scenario))]
 pub fn read_scenario(alloc: Global, bytes: &[u8]) -> Result<Scenario, ScenarioFault>
     ensures gives { Gives result (scenario_from bytes.now) }
@@ -75,9 +75,10 @@ pub fn scenario_of(alloc: Global, value: &Value) -> Result<Scenario, ScenarioFau
     })
 }
 
-/// The schedule, which is round robin where none is given.
+/// The schedule, or round robin if none is given.
 fn schedule_or_default(alloc: Global, value: &Value) -> Result<ScheduleSpec, ScenarioFault>
-    ensures { Gives result (optional key.Schedule schedule_of schedule.RoundRobin (view value.now)) }
+    ensures { Gives result
+        (optional key.Schedule schedule_of schedule.RoundRobin (view value.now)) }
 {
     match value.get(key_text(Key::Schedule)) {
         None => Ok(ScheduleSpec::RoundRobin),

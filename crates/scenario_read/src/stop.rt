@@ -1,4 +1,4 @@
-//! Why a value is not read, and the way to it.
+//! Why a value is not read, and the path to it.
 
 ghost use Rattle.std.specs.Prelude.{◌≡◌, [], ◌∷◌, Result, Ok, Err, IfOk};
 ghost use Rattle.input_defs.specs.Reading.{bad, under};
@@ -15,9 +15,9 @@ use std::alloc::Global;
 /// Why nothing was read.
 #[derive(Drop)]
 pub enum ScenarioFault {
-    /// The first fault of the input, and where it stands.
+    /// The first input error, with its path.
     Bad(Refusal),
-    /// Memory was wanting.
+    /// Memory ran out.
     NoMemory,
 }
 
@@ -26,12 +26,12 @@ impl From<NoMemory> for ScenarioFault {
 
     ghost from_gives = { λ _ stop. stop ≡ stops.NoMemory };
 
-    fn from(_wanting: NoMemory) -> ScenarioFault {
+    fn from(_no_memory: NoMemory) -> ScenarioFault {
         ScenarioFault::NoMemory
     }
 }
 
-/// A fault of the value that is read.
+/// An input error at the value that is read.
 pub fn bad_here<T: Drop>(alloc: Global, fault: InputFault) -> Result<T, ScenarioFault>
     ensures { Gives result (bad fault) }
 {
@@ -41,16 +41,18 @@ pub fn bad_here<T: Drop>(alloc: Global, fault: InputFault) -> Result<T, Scenario
     }))
 }
 
-/// What was read behind a key.
+/// What was read under a key.
 pub fn at<T: Drop>(key: Key, inside: Result<T, ScenarioFault>) -> Result<T, ScenarioFault>
-    ensures { (reading : Result T Refusal) → Gives inside reading → Gives result (under (step.At key) reading) }
+    ensures { (reading : Result T Refusal) → Gives inside reading
+        → Gives result (under (step.At key) reading) }
 {
-    behind(PathStep::At(key), inside)
+    within(PathStep::At(key), inside)
 }
 
-/// What was read behind a step: a refusal gets the step in front of its path.
-pub fn behind<T: Drop>(step: PathStep, inside: Result<T, ScenarioFault>) -> Result<T, ScenarioFault>
-    ensures { (reading : Result T Refusal) → Gives inside reading → Gives result (under step reading) }
+/// What was read one step further inside. A refusal gets the step at the beginning of its path.
+pub fn within<T: Drop>(step: PathStep, inside: Result<T, ScenarioFault>) -> Result<T, ScenarioFault>
+    ensures { (reading : Result T Refusal) → Gives inside reading
+        → Gives result (under step reading) }
 {
     match inside {
         Ok(read) => Ok(read),
@@ -65,7 +67,7 @@ pub fn behind<T: Drop>(step: PathStep, inside: Result<T, ScenarioFault>) -> Resu
     }
 }
 
-/// A path with a step in front.
+/// A path with a step prepended.
 fn with_front(step: PathStep, path: Path) -> Result<Path, NoMemory>
     ensures { IfOk result (λ made. made ≡ step ∷ path) }
 {
@@ -76,7 +78,7 @@ fn with_front(step: PathStep, path: Path) -> Result<Path, NoMemory>
     }
 }
 
-/// A key that must be there and is not.
+/// The error that a required key is absent.
 pub fn missing(alloc: Global, key: Key) -> ScenarioFault
     ensures { IsMissing key result }
 {

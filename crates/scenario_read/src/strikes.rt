@@ -1,4 +1,4 @@
-//! What strikes the members of a campaign: a fault each, a list of faults each, or kinds of fault.
+//! What strikes the members of a campaign: one fault each, a list of faults each, or kinds of fault.
 
 ghost use Rattle.std.specs.Prelude.{◌≡◌};
 ghost use Rattle.serde_json.specs.View.{view};
@@ -22,7 +22,7 @@ use plan_defs::plan::{MOST_EVERY_KINDS, MOST_MEMBER_FAULTS, Strikes};
 use serde_json::Value;
 use std::alloc::Global;
 
-/// What strikes, under the key `every` or `members`, or else under `faults`, which must then be there.
+/// What strikes, under the key `every` or `members`, or else under `faults`, which is then required.
 pub fn strikes_of(alloc: Global, value: &Value) -> Result<Strikes, ScenarioFault>
     ensures { let d = view value.now in
         Gives result (strikes_of (get (key_text key.Every) d) (get (key_text key.Members) d) d) }

@@ -17,14 +17,14 @@ use nook_data::scenario::{ThreadSpec, ThreadSpecs};
 use serde_json::Value;
 use std::alloc::Global;
 
-/// Up to 16 threads of a scenario of so many parts.
+/// Up to 16 threads of a scenario with `parts` parts.
 pub fn threads_of(alloc: Global, value: &Value, parts: u32) -> Result<ThreadSpecs, ScenarioFault>
     ensures { Gives result (threads_of parts (view value.now)) }
 {
     read_list(alloc, &ThreadReader { parts }, value, 0, MOST_THREADS)
 }
 
-/// Reads the threads of a scenario of so many parts.
+/// Reads the threads of a scenario with this many parts.
 #[derive(Drop)]
 struct ThreadReader {
     parts: u32,
@@ -45,7 +45,7 @@ impl ItemReader for ThreadReader {
     }
 }
 
-/// A thread, behind the earlier threads.
+/// A thread, after the earlier threads.
 #[tactic(auto, unfolding(input_defs::specs::ScenarioReading::thread_of))]
 fn thread_of(
     alloc: Global,

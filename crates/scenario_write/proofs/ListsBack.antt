@@ -16,16 +16,16 @@ no_less n = le-ltb n 0 (omega arith)
 pub number_back : (low high n : ℕ) → low ≤ n → n ≤ high → whole_number low high (number_data n) ≡ Ok n
 number_back low high n p q = rw (le-ltb n low p, le-ltb high n q) refl
 
--- each item is read back behind those before it
+-- each item is read back after those before it
 abbrev pub Reads : {T : Type 0} → (List T → Data → Result T Refusal) → (T → Data) → List T → List T → Type 0
 Reads of data_of earlier [] = ⊤
 Reads of data_of earlier (x ∷ xs) = (of earlier (sorted (data_of x)) ≡ Ok x) × Reads of data_of (earlier ++ x ∷ []) xs
 
-items_back : {T : Type 0} (of : List T → Data → Result T Refusal) (data_of : T → Data) (earlier : List T) (place : ℕ) (xs : List T) → Reads of data_of earlier xs
-    → items_from of earlier place (sorted_items (items_with data_of xs)) ≡ Ok (earlier ++ xs)
-items_back of data_of earlier place [] h = rw (append-nil earlier) refl
-items_back of data_of earlier place (x ∷ xs) h =
-    rw h.0 (items_back of data_of (earlier ++ x ∷ []) (place + 1) xs h.1 ∙ ap Ok (append_assoc earlier (x ∷ []) xs))
+items_back : {T : Type 0} (of : List T → Data → Result T Refusal) (data_of : T → Data) (earlier : List T) (index : ℕ) (xs : List T) → Reads of data_of earlier xs
+    → items_from of earlier index (sorted_items (items_with data_of xs)) ≡ Ok (earlier ++ xs)
+items_back of data_of earlier index [] h = rw (append-nil earlier) refl
+items_back of data_of earlier index (x ∷ xs) h =
+    rw h.0 (items_back of data_of (earlier ++ x ∷ []) (index + 1) xs h.1 ∙ ap Ok (append_assoc earlier (x ∷ []) xs))
 
 counted : {T : Type 0} (data_of : T → Data) (xs : List T) → count_of (sorted_items (items_with data_of xs)) ≡ length xs
 counted data_of [] = refl

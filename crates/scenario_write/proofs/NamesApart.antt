@@ -1,4 +1,4 @@
--- Names that all differ: each is none of the earlier ones.
+-- If names are distinct, each differs from the earlier ones.
 use Rattle.std.proofs.Common.{◌≡◌, refl, ℕ, true, false, not, List, [], ◌∷◌, ◌++◌}
 use Rattle.std.specs.Prelude.{bytes_eq}
 use Rattle.std.proofs.lemmas.Bool.{and_parts}

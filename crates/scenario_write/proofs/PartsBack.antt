@@ -86,7 +86,7 @@ frames_back frames room h =
 
 -- ---- parts, by their classes
 
--- no bad block, or the version that has them
+-- no bad blocks, or the version that allows them
 abbrev pub IsEmpty : List BadBlock → Type 0
 IsEmpty [] = ⊤
 IsEmpty (first ∷ more) = ⊥
@@ -94,7 +94,7 @@ IsEmpty (first ∷ more) = ⊥
 abbrev pub FitsVersion : ℕ → List BadBlock → Type 0
 FitsVersion version bad = IsEmpty bad ⊎ (version ≡ 2)
 
--- what all parts keep
+-- the limits that all parts share
 abbrev Common : Class → List PartSpec → List ℕ → ℕ → Image → List Fault → Type 0
 Common c earlier name limit image faults =
     (is_name name ≡ true) × (is_among (part_names earlier) name ≡ false) × (limit ≤ 16) × (image.class ≡ c) × IsValidImage image × (length faults ≤ 64) × All IsValidFault faults
@@ -161,7 +161,7 @@ bad_disk_by earlier name blocks first more limit image faults h low high room ba
       faults_back faults h.5 h.6,
     ) refl
 
--- a part by its class, its bad blocks, and all else
+-- a part is read back, by its class, its bad blocks and everything else
 part_by : (c : Class) (bad : List BadBlock) (version : ℕ) (earlier : List PartSpec) (name : List ℕ) (blocks limit : ℕ) (image : Image) (faults : List Fault) (arrivals : List (List ℕ))
     → let part : PartSpec = record { name = name; class = c; blocks = blocks; bad = bad; limit = limit; image = image; faults = faults; arrivals = arrivals } in
     IsValidPart part → FitsVersion version bad → is_among (part_names earlier) name ≡ false → part_of version earlier (sorted (part_data part)) ≡ Ok part

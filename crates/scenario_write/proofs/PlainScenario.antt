@@ -1,4 +1,4 @@
--- A scenario's value is of texts and unsigned numbers, nested a few times.
+-- A scenario's value has only texts and unsigned numbers, with little nesting.
 use Rattle.std.proofs.Common.{◌≡◌, ℕ, ◌^◌, ◌<◌, ◌≤◌, true, IsUtf8, List, [], ◌∷◌, length, refl, arith}
 use Rattle.std.specs.Prelude.{All, codes, if◌then◌else◌, Bool, false}
 use Rattle.std.proofs.lemmas.List.Elements.{All-head, All-tail}

@@ -1,4 +1,4 @@
--- What a reader makes of a value's text: the same value, with the members of each object in the order of their keys.
+-- The text of a value is read as the same value, with the members of each object in the order of their keys.
 use Rattle.std.proofs.Common.{◌≡◌, ℕ, Some, refl}
 use Rattle.serde_json.specs.Data.{Num, unsigned, negative, float, Data, null, boolean, number, string, array, object, Items, no_items, item, Members, no_members, member, put}
 use Rattle.serde_json.specs.Read.{of_json, of_items, of_members}

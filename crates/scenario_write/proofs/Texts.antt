@@ -16,16 +16,16 @@ nine old a b c d e f g h i = simp append_assoc refl
 seven : (old a b c i e f g : List ℕ) → old ++ (a ++ b) ++ c ++ i ++ (125 ∷ e) ++ f ++ g ≡ old ++ (a ++ (b ++ (c ++ ((i ++ 125 ∷ []) ++ (e ++ (f ++ g))))))
 seven old a b c i e f g = simp append_assoc refl
 
-pub part_text : (part : PartSpec) (old named behind_name classed behind_class disk whole : List ℕ)
+pub part_text : (part : PartSpec) (old named after_name classed after_class disk whole : List ℕ)
     → named ≡ old ++ codes "{\"name\":"
-    → behind_name ≡ named ++ quoted part.name
-    → classed ≡ behind_name ++ codes ",\"class\":"
-    → behind_class ≡ classed ++ quoted (class_text part.class)
-    → disk ++ members_text true (part_members part) ≡ behind_class ++ members_text true (disk_members part.class part (part_members part))
+    → after_name ≡ named ++ quoted part.name
+    → classed ≡ after_name ++ codes ",\"class\":"
+    → after_class ≡ classed ++ quoted (class_text part.class)
+    → disk ++ members_text true (part_members part) ≡ after_class ++ members_text true (disk_members part.class part (part_members part))
     → whole ≡ disk ++ members_text true (part_members part)
     → whole ≡ old ++ compact_text (part_data part)
 unfolding part_data escape_byte
-part_text part old named behind_name classed behind_class disk whole a b c d e f = f ∙ e ∙ rw (d, c, b, a) (simp append_assoc refl)
+part_text part old named after_name classed after_class disk whole a b c d e f = f ∙ e ∙ rw (d, c, b, a) (simp append_assoc refl)
 
 pub scenario_text : (scenario : Scenario) (version : ℕ) (versioned parts : List PartSpec) (threads : List ThreadSpec) (old s1 s2 s3 s4 s5 s6 s7 whole : List ℕ)
     → version ≡ version_of versioned → versioned ≡ scenario.parts → parts ≡ scenario.parts → threads ≡ scenario.threads

@@ -22,7 +22,7 @@ use Rattle.nook_data.specs.declared.scenario.ThreadSpec.{ThreadSpec}
 use Rattle.asm_defs.specs.declared.keys.Key.{Key}
 use Rattle.asm_defs.specs.declared.keys.Key.TheVariants as key
 
--- A scenario as a JSON value, its members in the order in which they are written, and its text.
+-- A scenario as a JSON value, with its members in the order in which they are written, and its text.
 
 -- ---- values
 
@@ -30,7 +30,7 @@ use Rattle.asm_defs.specs.declared.keys.Key.TheVariants as key
 abbrev pub number_data : ℕ → Data
 number_data n = number (unsigned n)
 
--- a value at a key, before other members
+-- a value at a key, followed by other members
 abbrev pub at : Key → Data → Members → Members
 at key d more = member (key_text key) d more
 
@@ -85,7 +85,7 @@ bad_block_data bad = object (at key.Block (number_data bad.block) (at key.After 
 
 -- ---- parts
 
--- the bad blocks, where there are any
+-- the bad blocks, if there are any
 abbrev pub bad_members : List BadBlock → Members → Members
 bad_members [] more = more
 bad_members (first ∷ others) more = at key.Bad (list_data bad_block_data (first ∷ others)) more
@@ -106,7 +106,7 @@ arrival_members class.Sound part = no_members
 abbrev pub driver_data : Image → Data
 driver_data image = object (at key.Image (image_data image) no_members)
 
--- what stands behind a disk's own members
+-- the members that follow a disk's own
 abbrev pub part_members : PartSpec → Members
 part_members part =
     at key.Limit (number_data part.limit)
@@ -154,7 +154,7 @@ abbrev pub has_bad : List PartSpec → Bool
 has_bad [] = false
 has_bad (part ∷ more) = not (length part.bad == 0) || has_bad more
 
--- the version of the format: bad blocks came with the second
+-- the version of the format; version 2 introduced bad blocks
 abbrev pub version_of : List PartSpec → ℕ
 version_of parts = if has_bad parts then 2 else 1
 
@@ -166,7 +166,7 @@ scenario_data scenario = object
     (at key.Parts (list_data part_data scenario.parts)
     (at key.Threads (list_data thread_data scenario.threads) no_members))))
 
--- the text of a scenario, on one line without its end
+-- the text of a scenario on one line, without a line feed
 unfoldable pub scenario_json : Scenario → List ℕ
 scenario_json scenario = compact_text (scenario_data scenario)
 

@@ -1,4 +1,4 @@
-//! Scenarios as JSON: what is written for one reads as that scenario.
+//! Scenarios as JSON: the text that is written for one is read as that scenario.
 #![tactic(auto)]
 
 mod laws;

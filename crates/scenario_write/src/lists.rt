@@ -1,4 +1,4 @@
-//! What is written as one JSON value, and lists of it.
+//! Things that are written as one JSON value, and lists of them.
 
 ghost use Rattle.std.specs.Prelude.{◌≡◌, ◌∷◌, ◌++◌, [], OnOk, decimal, string_bytes};
 ghost use Rattle.json.specs.Print.{quoted};
@@ -12,7 +12,7 @@ use serde_json::Value;
 use std::alloc::Global;
 use std::fmt::Write;
 
-/// What is written as one value.
+/// A thing that is written as one JSON value.
 pub trait Written {
     ghost use Rattle.serde_json.specs.Data.{Data};
 
@@ -21,7 +21,8 @@ pub trait Written {
 
     /// Adds the compact text of the value.
     fn push(&self, alloc: Global, text: &mut String) -> Result<(), NoMemory>
-        ensures { OnOk result (string_bytes text.new ≡ string_bytes text.old ++ compact_text (json self.now)) };
+        ensures { OnOk result
+            (string_bytes text.new ≡ string_bytes text.old ++ compact_text (json self.now)) };
 }
 
 impl Written for u16 {
@@ -50,7 +51,9 @@ impl Written for Words {
 
 /// Adds a list.
 pub fn push_list<T: Written>(alloc: Global, text: &mut String, items: &[T]) -> Result<(), NoMemory>
-    ensures { OnOk result (string_bytes text.new ≡ string_bytes text.old ++ compact_text (list_data T.json items.now)) }
+    ensures { OnOk result
+        (string_bytes text.new ≡ string_bytes text.old
+        ++ compact_text (list_data T.json items.now)) }
 {
     text.push_str("[")?;
     let mut later = false;
@@ -63,7 +66,7 @@ pub fn push_list<T: Written>(alloc: Global, text: &mut String, items: &[T]) -> R
     Ok(())
 }
 
-/// Adds a comma, where something stands before.
+/// Adds a comma if an item comes before.
 fn push_comma(text: &mut String, later: bool) -> Result<(), NoMemory>
     ensures { OnOk result (string_bytes text.new ≡ string_bytes text.old ++ comma_if later) }
 {
@@ -73,9 +76,10 @@ fn push_comma(text: &mut String, later: bool) -> Result<(), NoMemory>
     Ok(())
 }
 
-/// Adds a text and a number behind it.
+/// Adds a text followed by a number.
 pub fn push_number(text: &mut String, front: &str, number: u64) -> Result<(), NoMemory>
-    ensures { OnOk result (string_bytes text.new ≡ string_bytes text.old ++ (front.now ++ decimal number)) }
+    ensures { OnOk result
+        (string_bytes text.new ≡ string_bytes text.old ++ (front.now ++ decimal number)) }
 {
     write!(text, "{front}{number}")?;
     Ok(())

@@ -56,10 +56,11 @@ impl Written for (u32, Op) {
     }
 }
 
-/// Adds the members of an operation behind others, and the end of the object.
+/// Adds the members of an operation after others, and the end of the object.
 #[tactic(auto, unfolding(json::specs::Print::escape_byte))]
 fn push_op(alloc: Global, text: &mut String, op: &Op) -> Result<(), NoMemory>
-    ensures { OnOk result (string_bytes text.new ≡ string_bytes text.old ++ members_text true (op_members op.now)) }
+    ensures { OnOk result
+        (string_bytes text.new ≡ string_bytes text.old ++ members_text true (op_members op.now)) }
 {
     match op {
         Op::Read { first, count } => {
@@ -97,10 +98,11 @@ fn push_last(text: &mut String, last: &str) -> Result<(), NoMemory>
     Ok(())
 }
 
-/// Adds a text, words behind it, and the end of an object.
+/// Adds a text followed by words, and the end of an object.
 fn push_words(alloc: Global, text: &mut String, front: &str, words: &Words) -> Result<(), NoMemory>
     ensures { OnOk result (string_bytes text.new
-        ≡ string_bytes text.old ++ (front.now ++ (compact_text (numbers_data words.now) ++ codes "}"))) }
+        ≡ string_bytes text.old
+        ++ (front.now ++ (compact_text (numbers_data words.now) ++ codes "}"))) }
 {
     text.push_str(front)?;
     push_list(alloc, text, words.as_slice())?;

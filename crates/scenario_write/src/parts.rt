@@ -39,10 +39,11 @@ impl Written for Fault {
     }
 }
 
-/// Adds the members of a fault's kind behind others, and the end of the object.
+/// Adds the members of a fault's kind after others, and the end of the object.
 #[tactic(auto, unfolding(json::specs::Print::escape_byte))]
 fn push_kind(text: &mut String, kind: FaultKind) -> Result<(), NoMemory>
-    ensures { OnOk result (string_bytes text.new ≡ string_bytes text.old ++ members_text true (kind_members kind)) }
+    ensures { OnOk result
+        (string_bytes text.new ≡ string_bytes text.old ++ members_text true (kind_members kind)) }
 {
     match kind {
         FaultKind::Trap => text.push_str(",\"kind\":\"trap\"}")?,
@@ -87,10 +88,12 @@ impl Written for PartSpec {
     }
 }
 
-/// Adds what stands behind a disk's own members, and the end of the object.
+/// Adds the members that follow a disk's own, and the end of the object.
 #[tactic(auto, unfolding(json::specs::Print::escape_byte))]
 fn push_members(alloc: Global, text: &mut String, part: &PartSpec) -> Result<(), NoMemory>
-    ensures { OnOk result (string_bytes text.new ≡ string_bytes text.old ++ members_text true (part_members part.now)) }
+    ensures { OnOk result
+        (string_bytes text.new ≡ string_bytes text.old
+        ++ members_text true (part_members part.now)) }
 {
     push_number(text, ",\"limit\":", u64::from(part.limit))?;
     text.push_str(",\"driver\":{\"image\":")?;
@@ -104,7 +107,8 @@ fn push_members(alloc: Global, text: &mut String, part: &PartSpec) -> Result<(),
 /// Adds a class as a JSON string.
 #[tactic(auto, unfolding(json::specs::Print::escape_byte))]
 fn push_class(text: &mut String, class: Class) -> Result<(), NoMemory>
-    ensures { OnOk result (string_bytes text.new ≡ string_bytes text.old ++ quoted (class_text class)) }
+    ensures { OnOk result
+        (string_bytes text.new ≡ string_bytes text.old ++ quoted (class_text class)) }
 {
     match class {
         Class::Block => text.push_str("\"block\"")?,
@@ -129,7 +133,7 @@ fn push_disk(alloc: Global, text: &mut String, part: &PartSpec) -> Result<(), No
     }
 }
 
-/// Adds the bad blocks, where there are any.
+/// Adds the bad blocks, if there are any.
 #[tactic(auto, unfolding(json::specs::Print::escape_byte))]
 fn push_bad(alloc: Global, text: &mut String, bad: &[BadBlock]) -> Result<(), NoMemory>
     ensures { OnOk result ((more : Members) → string_bytes text.new ++ members_text true more
@@ -145,7 +149,8 @@ fn push_bad(alloc: Global, text: &mut String, bad: &[BadBlock]) -> Result<(), No
 /// Adds an image.
 #[tactic(auto, using(driver_asm::proofs::Floats::image_has_none))]
 fn push_image(alloc: Global, text: &mut String, image: &Image) -> Result<(), NoMemory>
-    ensures { OnOk result (string_bytes text.new ≡ string_bytes text.old ++ compact_text (image_data image.now)) }
+    ensures { OnOk result
+        (string_bytes text.new ≡ string_bytes text.old ++ compact_text (image_data image.now)) }
 {
     let value = image_value(alloc, image)?;
     let written = value.to_string(alloc)?;

@@ -12,33 +12,35 @@ use nook_data::memory::NoMemory;
 use nook_data::scenario::{PartSpec, Scenario};
 use std::alloc::Global;
 
-/// A scenario as JSON in compact form on one line, without the line's end. The keys stand in the order in which the
-/// format lists them; the version is 2 where a part has a bad block, else 1; a driver is given as its image. Schedule,
-/// limits and faults are always there, and so are the arrivals of a net part; bad blocks only where there are any. The
-/// text of a valid scenario is read as that scenario.
+/// A scenario as compact JSON on one line, without a line feed. The keys are in the order in which the format lists
+/// them. The version is 2 if a part has a bad block, else 1, and a driver is written as its image. Schedule, limits,
+/// faults and the arrivals of a net part are always written; bad blocks only if there are any. The text of a valid
+/// scenario is read as that scenario.
 ///
 /// # Errors
 ///
-/// Want of memory.
+/// If memory runs out.
 #[tactic(auto, unfolding(crate::specs::ScenarioText::scenario_json), using(crate::proofs::ComesBack::text_back))]
 pub fn write_scenario(alloc: Global, scenario: &Scenario) -> Result<Words8, NoMemory>
     ensures text { IfOk result (λ text. text ≡ scenario_json scenario.now) }
-    ensures back { IsValidScenario scenario.now → IfOk result (λ text. scenario_from text ≡ Ok scenario.now) }
+    ensures back { IsValidScenario scenario.now
+        → IfOk result (λ text. scenario_from text ≡ Ok scenario.now) }
 {
     let mut text = String::new(alloc);
     scenario.push(alloc, &mut text)?;
     Ok(Words8::from_vec(text.into_bytes()))
 }
 
-/// The same with a line feed behind it.
+/// The same with a line feed at the end.
 ///
 /// # Errors
 ///
-/// Want of memory.
+/// If memory runs out.
 #[tactic(auto, unfolding(crate::specs::ScenarioText::scenario_json), using(crate::proofs::ComesBack::line_back))]
 pub fn write_scenario_line(alloc: Global, scenario: &Scenario) -> Result<Words8, NoMemory>
     ensures text { IfOk result (λ text. text ≡ scenario_line scenario.now) }
-    ensures back { IsValidScenario scenario.now → IfOk result (λ text. scenario_from text ≡ Ok scenario.now) }
+    ensures back { IsValidScenario scenario.now
+        → IfOk result (λ text. scenario_from text ≡ Ok scenario.now) }
 {
     let mut text = String::new(alloc);
     scenario.push(alloc, &mut text)?;
@@ -62,7 +64,7 @@ impl Written for Scenario {
     }
 }
 
-/// The version of the format that has all that the parts have.
+/// The version of the format that has everything the parts use.
 fn version_of(parts: &[PartSpec]) -> u64
     ensures { result ≡ version_of parts.now }
 {

@@ -1,10 +1,10 @@
 use Rattle.std.specs.Prelude.{drop}
 use Rattle.run_defs.specs.Schedules.{Order, round, drawn, listed}
-use Rattle.schedule.specs.declared.pick.Standing.{Standing}
-use Rattle.schedule.specs.declared.pick.Standing.TheVariants as standing
+use Rattle.schedule.specs.declared.pick.Progress.{Progress}
+use Rattle.schedule.specs.declared.pick.Progress.TheVariants as progress
 
--- the order that a schedule stands for
-abbrev pub order_of : Standing → Order
-order_of (standing.Round cursor) = round cursor
-order_of (standing.Drawn generator) = drawn generator
-order_of (standing.Listed picks at) = listed (drop at picks)
+-- the order that a schedule's state represents
+abbrev pub order_of : Progress → Order
+order_of (progress.Round cursor) = round cursor
+order_of (progress.Drawn generator) = drawn generator
+order_of (progress.Listed picks at) = listed (drop at picks)

@@ -2,22 +2,22 @@ use Rattle.std.specs.Prelude.{◌≡◌, ℕ, ◌+◌, nat_le, List, Option, Som
 use Rattle.run_defs.specs.Schedules.{Order, round, drawn, listed, listed_pick, round_pick}
 
 -- the first enabled actor at or after the cursor, else the first
-abbrev pub place_from : ℕ → List ℕ → ℕ
-place_from cursor actors = unwrap_or (position (λ a. nat_le cursor a) actors) 0
+abbrev pub position_from : ℕ → List ℕ → ℕ
+position_from cursor actors = unwrap_or (position (λ a. nat_le cursor a) actors) 0
 
--- where an order stands that is a round robin
+-- the cursor of an order, if it is a round robin
 abbrev pub cursor_of : Order → Option ℕ
 cursor_of (round cursor) = Some cursor
 cursor_of (drawn g) = None
 cursor_of (listed picks) = None
 
--- the cursor behind the actor that a round robin picks
+-- the cursor after the actor that a round robin picks
 abbrev pub cursor_after : ℕ → List ℕ → ℕ
-cursor_after cursor actors = slice_index actors (place_from cursor actors) + 1
+cursor_after cursor actors = slice_index actors (position_from cursor actors) + 1
 
--- what is picked by the listed picks from a place on: a place among the actors and the place of the next pick, or
--- none where no pick is enabled any more
+-- what the listed picks from an index on select: the index of an actor and the index of the next pick, or None if no
+-- pick is enabled any more
 abbrev pub IsNext : List ℕ → ℕ → List ℕ → Option (ℕ × ℕ) → Type 0
 IsNext picks at actors None = listed_pick (drop at picks) actors ≡ round_pick 0 actors
 IsNext picks at actors (Some next) =
-    listed_pick (drop at picks) actors ≡ record { place = next.0; order = listed (drop next.1 picks) }
+    listed_pick (drop at picks) actors ≡ record { index = next.0; order = listed (drop next.1 picks) }

@@ -1,4 +1,4 @@
-//! Which of the enabled actors takes the next step: round robin, drawn or listed.
+//! Which enabled actor takes the next step: round robin, drawn or listed.
 #![tactic(auto)]
 
 mod pick;

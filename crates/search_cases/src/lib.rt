@@ -1,4 +1,4 @@
-//! A search over a simulation in which nothing can happen: it shows that what a search asks of a simulation can be met.
+//! A search over a simulation in which nothing can happen: it shows that the requirements of a search can be met.
 #![tactic(auto)]
 
 mod still;

@@ -6,26 +6,26 @@ use Rattle.part_defs.specs.State.{CallLog}
 use Rattle.part_defs.specs.Log.{after_entering, held_call, open_call, is_call, after_answering}
 use Rattle.part_defs.proofs.PartCases.{entered_call}
 use Rattle.part_defs.specs.Views.CallLogs.{IsNumbered, after_holding}
-use Rattle.shadow_log.specs.Places.{IsPlace}
+use Rattle.shadow_log.specs.Indices.{IsPosition}
 use Rattle.shadow_log.specs.Stopped.{is_unanswered, after_answers}
 use Rattle.shadow_log.proofs.Numbers.{changed_at, changed_nowhere, numbered_map, numbered_filter}
 
 with_pending : CallLog → List CallEntry → CallLog
 with_pending log pending = record log { pending = pending }
 
-pub entered_at : (log : CallLog) (call place : ℕ) (x : CallEntry) → IsNumbered 0 log.count log.pending → IsPlace call place log.pending
-    → x ≡ slice_index_or log.pending place x → record log { pending = slice_set log.pending place (entered_call x) } ≡ after_entering call log
+pub entered_at : (log : CallLog) (call index : ℕ) (x : CallEntry) → IsNumbered 0 log.count log.pending → IsPosition call index log.pending
+    → x ≡ slice_index_or log.pending index x → record log { pending = slice_set log.pending index (entered_call x) } ≡ after_entering call log
 unfolding after_entering with_pending
-entered_at log call place x n p e = ap (with_pending log) (changed_at call log.count entered_call log.pending place x n p e)
+entered_at log call index x n p e = ap (with_pending log) (changed_at call log.count entered_call log.pending index x n p e)
 
 pub entered_nowhere : (log : CallLog) (call : ℕ) → open_call call log.pending ≡ None → log ≡ after_entering call log
 unfolding after_entering with_pending
 entered_nowhere log call e = ap (with_pending log) (sym (changed_nowhere call entered_call log.pending e))
 
-pub held_at : (log : CallLog) (call place : ℕ) (x : CallEntry) → IsNumbered 0 log.count log.pending → IsPlace call place log.pending
-    → x ≡ slice_index_or log.pending place x → record log { pending = slice_set log.pending place (held_call x) } ≡ after_holding call log
+pub held_at : (log : CallLog) (call index : ℕ) (x : CallEntry) → IsNumbered 0 log.count log.pending → IsPosition call index log.pending
+    → x ≡ slice_index_or log.pending index x → record log { pending = slice_set log.pending index (held_call x) } ≡ after_holding call log
 unfolding after_holding with_pending
-held_at log call place x n p e = ap (with_pending log) (changed_at call log.count held_call log.pending place x n p e)
+held_at log call index x n p e = ap (with_pending log) (changed_at call log.count held_call log.pending index x n p e)
 
 pub held_nowhere : (log : CallLog) (call : ℕ) → open_call call log.pending ≡ None → log ≡ after_holding call log
 unfolding after_holding with_pending

@@ -10,7 +10,7 @@ use Rattle.nook_data.specs.declared.calls.CallEntry.{CallEntry}
 use Rattle.part_defs.specs.Log.{is_call, open_call, call_of_thread}
 use Rattle.part_defs.specs.Views.CallLogs.{IsNumbered}
 use Rattle.part_defs.proofs.PartCases.{change_entry, is_of_thread}
-use Rattle.shadow_log.specs.Places.{IsPlace}
+use Rattle.shadow_log.specs.Indices.{IsPosition}
 
 pub numbered_more : (low count : ℕ) (xs : List CallEntry) → IsNumbered low count xs → IsNumbered low (count + 1) xs
 numbered_more low count [] h = omega (arith, h)
@@ -44,20 +44,20 @@ numbered_map low count f [] e h = h
 numbered_map low count f (x ∷ xs) e h =
     (omega (arith, e x, h.0), rw (e x) (numbered_map x.call count f xs e h.1))
 
--- a call at a place
+-- a call at an index
 
-place_cases : (call n : ℕ) (xs : List CallEntry) → n ≡ position_or_len (is_call call) xs
-    → MatchOption (position (is_call call) xs) (open_call call xs ≡ None) (λ place. IsPlace call place xs)
-place_cases call n xs e = elim (cases_lt n (length xs)) [
+number_cases : (call n : ℕ) (xs : List CallEntry) → n ≡ position_or_len (is_call call) xs
+    → MatchOption (position (is_call call) xs) (open_call call xs ≡ None) (λ index. IsPosition call index xs)
+number_cases call n xs e = elim (cases_lt n (length xs)) [
   | inl l ↦ rw (lt-ltb (position_or_len (is_call call) xs) (length xs) (omega (arith, e, l)))
       (record { first = refl; within = omega (arith, e, l); there = find_at (is_call call) xs })
   | inr l ↦ rw (le-ltb (position_or_len (is_call call) xs) (length xs) (omega (arith, e, l)))
       (find_at (is_call call) xs ∙ slice_get_past xs _ (omega (arith, e, l)))
 ]
 
-pub place_is : (call : ℕ) (xs : List CallEntry) (r : Option ℕ) → r ≡ position (is_call call) xs
-    → MatchOption r (open_call call xs ≡ None) (λ place. IsPlace call place xs)
-place_is call xs r e = rw e (place_cases call (position_or_len (is_call call) xs) xs refl)
+pub position_is : (call : ℕ) (xs : List CallEntry) (r : Option ℕ) → r ≡ position (is_call call) xs
+    → MatchOption r (open_call call xs ≡ None) (λ index. IsPosition call index xs)
+position_is call xs r e = rw e (number_cases call (position_or_len (is_call call) xs) xs refl)
 
 none_above : (call low count : ℕ) (f : CallEntry → CallEntry) (xs : List CallEntry) → call ≤ low → IsNumbered low count xs
     → map (change_entry call f) xs ≡ xs
@@ -68,37 +68,37 @@ none_above call low count f (x ∷ xs) l h =
 later : (p : CallEntry → Bool) (x : CallEntry) (xs : List CallEntry) → p x ≡ false → position_or_len p (x ∷ xs) ≡ suc (position_or_len p xs)
 later p x xs e = rw e (omega arith)
 
--- a change at the place of a call is the change of the call
-set_at : (call low count : ℕ) (f : CallEntry → CallEntry) (xs : List CallEntry) (place : ℕ) (y : CallEntry) → IsNumbered low count xs
-    → place ≡ position_or_len (is_call call) xs → place < length xs → ((d : CallEntry) → y ≡ f (slice_index_or xs place d))
-    → slice_set xs place y ≡ map (change_entry call f) xs
-set_at call low count f [] place y n e l h = absurd (omega (arith, l))
-set_at call low count f (x ∷ xs) place y n e l h = elim (cases_Bool (is_call call x)) [
+-- changing the item at the index of a call changes the call
+set_at : (call low count : ℕ) (f : CallEntry → CallEntry) (xs : List CallEntry) (index : ℕ) (y : CallEntry) → IsNumbered low count xs
+    → index ≡ position_or_len (is_call call) xs → index < length xs → ((d : CallEntry) → y ≡ f (slice_index_or xs index d))
+    → slice_set xs index y ≡ map (change_entry call f) xs
+set_at call low count f [] index y n e l h = absurd (omega (arith, l))
+set_at call low count f (x ∷ xs) index y n e l h = elim (cases_Bool (is_call call x)) [
   | inl t ↦
-      let z : place ≡ 0 = e ∙ rw t refl in
+      let z : index ≡ 0 = e ∙ rw t refl in
       let k : y ≡ f x = h x ∙ rw z refl in
       rw (z, t, k, none_above call x.call count f xs (omega (arith, eqb-true x.call call t)) n.1) refl
   | inr t ↦
-      let z : place ≡ suc (position_or_len (is_call call) xs) = e ∙ later (is_call call) x xs t in
+      let z : index ≡ suc (position_or_len (is_call call) xs) = e ∙ later (is_call call) x xs t in
       rw (z, t) (ap (λ w. x ∷ w) (set_at call x.call count f xs (position_or_len (is_call call) xs) y n.1 refl (omega (arith, z, l))
       (λ d. h d ∙ rw z refl)))
 ]
 
-pub changed_at : (call count : ℕ) (f : CallEntry → CallEntry) (xs : List CallEntry) (place : ℕ) (x : CallEntry) → IsNumbered 0 count xs
-    → IsPlace call place xs → x ≡ slice_index_or xs place x → slice_set xs place (f x) ≡ map (change_entry call f) xs
-changed_at call count f xs place x n p e =
-    set_at call 0 count f xs place (f x) n p.first p.within (λ d. ap f (get_or_read xs place x p.within e d))
+pub changed_at : (call count : ℕ) (f : CallEntry → CallEntry) (xs : List CallEntry) (index : ℕ) (x : CallEntry) → IsNumbered 0 count xs
+    → IsPosition call index xs → x ≡ slice_index_or xs index x → slice_set xs index (f x) ≡ map (change_entry call f) xs
+changed_at call count f xs index x n p e =
+    set_at call 0 count f xs index (f x) n p.first p.within (λ d. ap f (get_or_read xs index x p.within e d))
 
 change_keeps : (call : ℕ) (f : CallEntry → CallEntry) (x : CallEntry) (t : Bool) → (f x).call ≡ x.call → (cond t (f x) x).call ≡ x.call
 change_keeps call f x true e = e
 change_keeps call f x false e = refl
 
-pub numbered_set : (call count : ℕ) (f : CallEntry → CallEntry) (xs : List CallEntry) (place : ℕ) (x : CallEntry) → ((c : CallEntry) → (f c).call ≡ c.call)
-    → IsNumbered 0 count xs → IsPlace call place xs → x ≡ slice_index_or xs place x → IsNumbered 0 count (slice_set xs place (f x))
-numbered_set call count f xs place x k n p e = rw (changed_at call count f xs place x n p e)
+pub numbered_set : (call count : ℕ) (f : CallEntry → CallEntry) (xs : List CallEntry) (index : ℕ) (x : CallEntry) → ((c : CallEntry) → (f c).call ≡ c.call)
+    → IsNumbered 0 count xs → IsPosition call index xs → x ≡ slice_index_or xs index x → IsNumbered 0 count (slice_set xs index (f x))
+numbered_set call count f xs index x k n p e = rw (changed_at call count f xs index x n p e)
     (numbered_map 0 count (change_entry call f) xs (λ c. change_keeps call f c (is_call call c) (k c)) n)
 
--- no call has the number
+-- if no call has the number
 pub changed_nowhere : (call : ℕ) (f : CallEntry → CallEntry) (xs : List CallEntry) → open_call call xs ≡ None → map (change_entry call f) xs ≡ xs
 changed_nowhere call f [] e = refl
 changed_nowhere call f (x ∷ xs) e = elim (cases_Bool (is_call call x)) [
@@ -126,7 +126,7 @@ open_of_thread thread low count (y ∷ xs) x n e = elim (cases_Bool (is_of_threa
       (omega (arith, n.0, r.0), rw (ne_eqb y.call x.call (λ i. omega (arith, i, r.0))) r.1)
 ]
 
--- the same of a call that is lent
+-- the same for a call that is lent
 pub lent_open : {B : Type 0} (now : B → CallEntry) (r : Option B) (thread count : ℕ) (xs : List CallEntry) → IsNumbered 0 count xs
     → option_map now r ≡ call_of_thread thread xs → IfSome r (λ x. open_call (now x).call xs ≡ Some (now x))
 lent_open now None thread count xs n e = tt

@@ -21,9 +21,9 @@ pub none_left : (key : ℕ) (config defaults : List ℕ) (holder : Option ℕ) �
     → next_replay key (4 - key) config defaults holder ≡ replay_stream holder
 none_left key config defaults holder l = let e : 4 - key ≡ 0 = omega (arith, l) in rw e refl
 
--- the key behind a key, where the sum would not fit
-pub behind : (key next : ℕ) (log : CallLog) → (next ≡ key + 1) ⊎ ((4 ≤ next) × (4 ≤ key + 1))
+-- the next key, if the sum may not fit
+pub rest_after : (key next : ℕ) (log : CallLog) → (next ≡ key + 1) ⊎ ((4 ≤ next) × (4 ≤ key + 1))
     → next_replay next (4 - next) log.config log.defaults log.holder ≡ next_replay (key + 1) (3 - key) log.config log.defaults log.holder
-behind key next log (inl e) = let k : 4 - (key + 1) ≡ 3 - key = omega arith in rw (e, k) refl
-behind key next log (inr l) = let k : 3 - key ≡ 0 = omega (arith, l.1) in
+rest_after key next log (inl e) = let k : 4 - (key + 1) ≡ 3 - key = omega arith in rw (e, k) refl
+rest_after key next log (inr l) = let k : 3 - key ≡ 0 = omega (arith, l.1) in
     none_left next log.config log.defaults log.holder l.0 ∙ rw k refl

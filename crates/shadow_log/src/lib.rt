@@ -1,4 +1,4 @@
-//! What the shadow keeps of a part while its driver runs: the open calls, the configuration that was last
+//! What the shadow keeps of a part while its driver runs: the open calls, the configuration last
 //! acknowledged, and the thread that has the stream.
 #![tactic(auto)]
 

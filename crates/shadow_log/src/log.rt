@@ -6,7 +6,7 @@ ghost use Rattle.part_defs.specs.Log.{after_answering, call_of_thread, after_ent
 ghost use Rattle.part_defs.specs.Log.{no_call_open, with_answered_call, open_call, opening_log, replay_after};
 ghost use Rattle.part_defs.specs.Log.{with_call};
 ghost use Rattle.part_defs.specs.Views.CallLogs.{IsNumbered, acknowledged_call, after_holding, is_touched};
-ghost use Rattle.shadow_log.specs.Places.{IsPlace};
+ghost use Rattle.shadow_log.specs.Indices.{IsPosition};
 ghost use Rattle.shadow_log.specs.Stopped.{after_answers};
 
 use nook_data::answers::answer_among;
@@ -61,7 +61,7 @@ impl ShadowLog {
         }
     }
 
-    /// A call that stays open: it is Held and was never Inside. Its number, one more than the last one given.
+    /// Adds a call that stays open: it is Held and was never Inside. Returns its number, one more than the last.
     #[tactic(auto, unfolding(part_defs::specs::Log::with_call))]
     pub fn invoke(&mut self, thread: u8, op: Op) -> Result<u32, NoMemory>
         requires { self.old.count < MOST_CALLS }
@@ -81,7 +81,7 @@ impl ShadowLog {
         Ok(call)
     }
 
-    /// A call that is answered at once: only its number is given.
+    /// Counts a call that is answered at once: it only gets a number.
     #[tactic(auto, unfolding(part_defs::specs::Log::with_answered_call))]
     pub fn number(&mut self) -> u32
         requires { self.old.count < MOST_CALLS }
@@ -92,14 +92,14 @@ impl ShadowLog {
         self.count
     }
 
-    /// The call goes Inside, as one attempt more.
+    /// The call goes Inside; it has one more attempt.
     #[tactic(auto, unfolding(part_defs::specs::Log::after_entering))]
     pub fn entered(&mut self, call: u32)
         requires { IfSome (open_call call self.old.pending) (λ c. c.attempts < 4294967295) }
         ensures { self.new ≡ after_entering call self.old }
     {
-        if let Some(place) = place_of(&self.pending, call) {
-            let entry = &mut self.pending[place];
+        if let Some(index) = position_of(&self.pending, call) {
+            let entry = &mut self.pending[index];
             entry.inside = true;
             entry.attempts += 1;
         }
@@ -110,19 +110,19 @@ impl ShadowLog {
     pub fn held(&mut self, call: u32)
         ensures { self.new ≡ after_holding call self.old }
     {
-        if let Some(place) = place_of(&self.pending, call) {
-            self.pending[place].inside = false;
+        if let Some(index) = position_of(&self.pending, call) {
+            self.pending[index].inside = false;
         }
     }
 
     /// The driver's reply to the call was accepted. A Set goes into the record, an Open makes the call's thread
-    /// the holder, a Close leaves none. The call stays open.
+    /// the holder, a Close leaves no holder. The call stays open.
     #[tactic(auto, unfolding(part_defs::specs::Views::CallLogs::acknowledged_call, part_defs::specs::Log::after_acknowledging))]
     pub fn acknowledge(&mut self, call: u32)
         ensures { self.new ≡ acknowledged_call call self.old }
     {
-        if let Some(place) = place_of(&self.pending, call) {
-            let entry = &self.pending[place];
+        if let Some(index) = position_of(&self.pending, call) {
+            let entry = &self.pending[index];
             match entry.op {
                 Op::Set { key, value } => set_word(&mut self.config, key, value),
                 Op::Open => self.holder = Some(entry.thread),
@@ -132,7 +132,7 @@ impl ShadowLog {
         }
     }
 
-    /// The call is open no more.
+    /// The call is no longer open.
     #[tactic(auto, unfolding(part_defs::specs::Log::after_answering))]
     pub fn answered(&mut self, call: u32)
         ensures { self.new ≡ after_answering call self.old }
@@ -141,7 +141,7 @@ impl ShadowLog {
     }
 
     /// The driver was stopped, and these are the answers to open calls: the calls that have none stay open, all Held;
-    /// the others are open no more.
+    /// the others are no longer open.
     pub fn stopped(&mut self, answers: &[(u32, Answer)])
         ensures log { self.new ≡ after_answers answers.now self.old }
         ensures rising { IsNumbered 0 self.old.count self.old.pending }
@@ -151,7 +151,7 @@ impl ShadowLog {
         hold_all(&mut self.pending);
     }
 
-    /// The part is given up: no call is open any more.
+    /// The part is given up: no call is open any longer.
     pub fn given_up(&mut self)
         ensures { self.new ≡ no_call_open self.old }
     {
@@ -179,7 +179,7 @@ impl ShadowLog {
         self.holder
     }
 
-    /// How many numbers were given.
+    /// How many numbers were given out.
     pub fn count(&self) -> u32
         ensures { result ≡ self.now.count }
     {
@@ -200,7 +200,7 @@ impl ShadowLog {
         self.pending.as_slice()
     }
 
-    /// The open call at place `i` by rising number, counted from 0.
+    /// The open call at index `i` by rising number.
     pub fn open_call(&self, i: usize) -> &CallEntry
         requires { i < length self.now.pending }
         ensures call { slice_get self.now.pending i ≡ Some result.now }
@@ -209,7 +209,7 @@ impl ShadowLog {
         &self.pending[i]
     }
 
-    /// The open call of a thread, where it has one.
+    /// The open call of a thread, if it has one.
     pub fn call_of_thread(&self, thread: u8) -> Option<&CallEntry>
         ensures call { option_map (λ c. c.now) result ≡ call_of_thread thread self.now.pending }
         ensures number { IfSome result (λ c. open_call c.now.call self.now.pending ≡ Some c.now) }
@@ -221,14 +221,14 @@ impl ShadowLog {
     pub fn touched(&self, call: u32) -> bool
         ensures { result ≡ is_touched (open_call call self.now.pending) }
     {
-        match place_of(&self.pending, call) {
-            Some(place) => self.pending[place].attempts > 0,
+        match position_of(&self.pending, call) {
+            Some(index) => self.pending[index].attempts > 0,
             None => false,
         }
     }
 
-    /// The replay, or Resume, that follows Init or a replay: the keys whose word is no default by rising key,
-    /// then the stream where it has a holder.
+    /// The replay, or Resume, that follows Init or a replay: the keys whose word is not the default, by rising key,
+    /// then the stream if it has a holder.
     #[tactic(auto, unfolding(part_defs::specs::Log::replay_after))]
     pub fn replay_next(&self, after: &Stage) -> Stage
         ensures { result ≡ replay_after after.now self.now }
@@ -242,7 +242,8 @@ impl ShadowLog {
 
     /// The first replay of the keys from `first` on.
     fn replay_from(&self, first: u32) -> Stage
-        ensures { result ≡ next_replay first (4 - first) self.now.config self.now.defaults self.now.holder }
+        ensures { result ≡ next_replay first
+            (4 - first) self.now.config self.now.defaults self.now.holder }
     {
         for key in first..4 {
             let value = self.config[key as usize];
@@ -279,14 +280,15 @@ impl Same for ShadowLog {
     }
 }
 
-/// The place of an open call.
-fn place_of(pending: &[CallEntry], call: u32) -> Option<usize>
-    ensures { MatchOption result (open_call call pending.now ≡ None) (λ place. IsPlace call place pending.now) }
+/// The index of an open call.
+fn position_of(pending: &[CallEntry], call: u32) -> Option<usize>
+    ensures { MatchOption result (open_call call pending.now ≡ None)
+        (λ index. IsPosition call index pending.now) }
 {
     pending.iter().position(|entry| entry.call == call)
 }
 
-/// The record's word gets a value; a key past the last one changes nothing.
+/// Sets a word of the record; a key past the last one changes nothing.
 fn set_word(config: &mut [Word; 4], key: u32, value: Word)
     ensures { config.new ≡ slice_set config.old key value }
 {
@@ -295,7 +297,7 @@ fn set_word(config: &mut [Word; 4], key: u32, value: Word)
     }
 }
 
-/// Every call is Held.
+/// Makes every call Held.
 fn hold_all(pending: &mut [CallEntry])
     ensures { pending.new ≡ map held_call pending.old }
 {

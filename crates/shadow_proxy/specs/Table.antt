@@ -8,7 +8,7 @@ abbrev pub answer_of : Proxy → Option Answer
 answer_of (proxy.Answer a) = Some a
 answer_of proxy.Hold = None
 
--- a queue with that front, or the empty one
+-- a queue whose first frame is this, or the empty one
 abbrev pub queue_of : Option (List ℕ) → List (List ℕ)
 queue_of None = []
 queue_of (Some frame) = frame ∷ []

@@ -2,7 +2,7 @@
 
 use nook_data::calls::Answer;
 
-/// What the shadow does with an operation in the driver's place.
+/// What the shadow does with an operation instead of the driver.
 #[derive(Debug, PartialEq, Eq, Drop)]
 pub enum Proxy {
     /// It is answered.

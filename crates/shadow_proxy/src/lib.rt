@@ -1,4 +1,4 @@
-//! The shadow's table: what an operation is answered while the driver is away, or that it is held.
+//! The shadow's table: how an operation is answered while the driver is away, or that it is held.
 #![tactic(auto)]
 
 mod decision;

@@ -1,4 +1,4 @@
-//! The table, a case for each operation.
+//! The table, with a case for each operation.
 
 ghost use Rattle.std.specs.Prelude.{◌≡◌};
 ghost use Rattle.part_defs.specs.Log.{queue_after, shadow_answer};
@@ -16,7 +16,8 @@ use shadow_log::ShadowLog;
 /// no memory.
 #[tactic(auto, unfolding(part_defs::specs::Log::shadow_answer))]
 pub fn proxy(op: &Op, thread: u8, log: &ShadowLog, stage: &Stage, front: Option<Words>) -> Proxy
-    ensures { answer_of result ≡ shadow_answer op.now thread log.now.config log.now.holder stage.now (queue_of front) }
+    ensures { answer_of result
+        ≡ shadow_answer op.now thread log.now.config log.now.holder stage.now (queue_of front) }
 {
     match op {
         Op::Read { .. } | Op::Write { .. } | Op::Close | Op::Set { .. } => Proxy::Hold,
@@ -39,8 +40,8 @@ pub fn proxy(op: &Op, thread: u8, log: &ShadowLog, stage: &Stage, front: Option<
     }
 }
 
-/// The frame that the shadow may answer the operation with: the front of the kernel's queue, which leaves it, for a
-/// Recv; none for any other.
+/// The frame with which the shadow may answer the operation: for a Recv the first of the kernel's queue, which
+/// leaves it; none for any other.
 pub fn front_for<Q: RxFront>(op: &Op, queue: &mut Q) -> Option<Words>
     ensures front { result ≡ front_for op.now (Q.frames queue.old) }
     ensures left { Q.frames queue.new ≡ queue_after op.now (Q.frames queue.old) }

@@ -1,4 +1,4 @@
--- Halves of shares, shares that are joined, and what is left beside the whole.
+-- Which points halves and joined shares have; next to the whole, a disjoint share has none.
 use Rattle.std.proofs.Common.{◌≡◌, ℕ, ◌<◌, Bool, true, false, cond, nat_lt, ◌&&◌, ◌||◌, [], ◌∷◌, ◌++◌, ◌⊎◌, inl, inr, sym, refl, ap, ◌∙◌, arith}
 use Rattle.std.proofs.lemmas.Bool.Decides.{nat_tests}
 use Rattle.shares.specs.Shares.{Fixed, Share, bit_is, has_bits, owns, whole, above_bits, fresh_bit, with_bit, half, IsWhole}
@@ -81,11 +81,11 @@ owns_halves s f = either_bit (f (fresh_bit s)) (owns s f)
 pub halves_apart : (s : Share) (f : ℕ → Bool) → owns (half false s) f ≡ true → owns (half true s) f ≡ true → ⊥
 halves_apart s f e g = not_both_bits (f (fresh_bit s)) (owns s f) (sym (owns_half false s f) ∙ e) (sym (owns_half true s f) ∙ g)
 
--- a half has points of the share alone
+-- every point of a half is a point of the share
 pub half_in : (b : Bool) (s : Share) (f : ℕ → Bool) → owns (half b s) f ≡ true → owns s f ≡ true
 half_in b s f e = right_of (bit_is b (f (fresh_bit s))) (owns s f) (sym (owns_half b s f) ∙ e)
 
--- ---- a half of a share with a point has a point
+-- ---- if a share has a point, so has each half of it
 
 -- two points have the same bits below a number
 abbrev pub Alike : ℕ → (ℕ → Bool) → (ℕ → Bool) → Type 0
@@ -101,7 +101,7 @@ owns_like [] f g like = refl
 owns_like (bits ∷ s) f g like = ap (λ (z : Bool). z || owns s f) (bits_like bits f g (λ n lt. like n (omega arith)))
     ∙ ap (λ (z : Bool). has_bits bits g || z) (owns_like s f g (λ n lt. like n (omega arith)))
 
--- the point, with this bit from a number on
+-- the point with every bit from a number on replaced by this one
 abbrev then_bit : ℕ → Bool → (ℕ → Bool) → ℕ → Bool
 then_bit top b f n = cond (nat_lt n top) (f n) b
 
@@ -126,6 +126,6 @@ half_has b s f e =
 pub whole_whole : IsWhole whole
 whole_whole f = refl
 
--- beside a share of the whole each other one that shares no point with it has none
-pub none_beside : (s t : Share) → IsWhole s → ((f : ℕ → Bool) → owns s f ≡ true → owns t f ≡ true → ⊥) → (f : ℕ → Bool) → owns t f ≡ true → ⊥
-none_beside s t all apart f e = apart f (all f) e
+-- if one share is the whole, a share that has no point in common with it has no point at all
+pub none_over : (s t : Share) → IsWhole s → ((f : ℕ → Bool) → owns s f ≡ true → owns t f ≡ true → ⊥) → (f : ℕ → Bool) → owns t f ≡ true → ⊥
+none_over s t all apart f e = apart f (all f) e

@@ -1,5 +1,5 @@
--- Shares of a whole: what is split in two, handed about and joined again, in whatever order, is whole again once all of
--- it is back. A share is a set of points, and a point is a row of bits without end. No sum is needed, and no fraction.
+-- Shares of a whole. Whatever is split in two, passed around and joined again, in any order, is whole again once all of
+-- it is back. A share is a set of points, and a point is an infinite sequence of bits. No sum or fraction is needed.
 use Rattle.std.specs.Prelude.{◌≡◌, ℕ, suc, ◌+◌, Bool, true, false, ◌&&◌, ◌||◌, List, [], ◌∷◌, map}
 
 -- some bits of a point, each by its number
@@ -26,16 +26,16 @@ abbrev pub owns : Share → (ℕ → Bool) → Bool
 owns [] point = false
 owns (bits ∷ share) point = has_bits bits point || owns share point
 
--- the whole: nothing is asked of a point
+-- the whole share: it has every point
 abbrev pub whole : Share
 whole = [] ∷ []
 
--- a number above each of these bits' numbers
+-- a number larger than the numbers of these bits
 abbrev pub above_bits : Fixed → ℕ
 above_bits [] = 0
 above_bits (x ∷ bits) = suc (x.0 + above_bits bits)
 
--- a number above that of each bit of which a share speaks
+-- a number larger than that of every bit that a share mentions
 abbrev pub fresh_bit : Share → ℕ
 fresh_bit [] = 0
 fresh_bit (bits ∷ share) = above_bits bits + fresh_bit share
@@ -44,10 +44,10 @@ fresh_bit (bits ∷ share) = above_bits bits + fresh_bit share
 abbrev pub with_bit : ℕ → Bool → Share → Share
 with_bit number bit share = map (λ bits. (number, bit) ∷ bits) share
 
--- one half of a share: a bit of which it does not speak is fixed
+-- one half of a share: a bit that the share does not mention is fixed
 abbrev pub half : Bool → Share → Share
 half bit share = with_bit (fresh_bit share) bit share
 
--- it is all there is
+-- the share has every point
 abbrev pub IsWhole : Share → Type 0
 IsWhole share = (point : ℕ → Bool) → owns share point ≡ true

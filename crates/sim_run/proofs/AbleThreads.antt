@@ -7,13 +7,13 @@ use Rattle.nook_data.specs.declared.steps.Event.{Event}
 use Rattle.nook_data.specs.declared.calls.Op.{Op}
 use Rattle.nook_data.specs.declared.steps.Step.{Step}
 use Rattle.run_defs.specs.Simulation.{RunningPart, ThreadState, Waiting, part_after}
-use Rattle.part_laws.proofs.Places.{get_keep, get_mid, get_set, get_set_other, get_set_same, split}
+use Rattle.part_laws.proofs.Indices.{get_keep, get_mid, get_set, get_set_other, get_set_same, split}
 use Rattle.sim_run.proofs.Choosing.{drop_at}
 use Rattle.sim_run.specs.Able.{AreAble, AreAbleUpTo, able_actors, concerns, is_invocation, looks_at, looks_when}
 use Rattle.sim_run.specs.Actors.{actors_in, actors_of_seats, actors_of_threads, choice_when, has_step, named_if}
 use Rattle.sim_run.specs.Advanced.{IsSteppedSeat}
 
--- Right flags name the threads that have a step.
+-- Correct flags list the threads that have a step.
 
 named_by_flags : (first : ℕ) (parts : List RunningPart) (threads : List ThreadState) (able : List Bool) → length able ≡ length threads
     → ((k : ℕ) (t : ThreadState) → slice_get threads k ≡ Some t → slice_get able k ≡ Some (has_step (first + k) parts t))
@@ -54,7 +54,7 @@ ready_named parts threads able ready a h =
     h ∙ ap (λ xs. xs ++ actors_of_seats (length able) parts) (named_as_able parts threads able a)
     ∙ ap (λ (n : ℕ). actors_of_threads 0 parts threads ++ actors_of_seats n parts) a.count
 
--- One flag more of a list that is gone over.
+-- One more flag of a list is looked at.
 
 pub flags_step : (able : List Bool) (i : ℕ) (flag : Bool) (made now whole : List ℕ) → slice_get able i ≡ Some flag
     → now ≡ made ++ named_if flag i → made ++ able_actors i (drop i able) ≡ whole
@@ -70,9 +70,9 @@ unfolding able_actors
 flags_end able i made whole l h =
     sym (append-nil made) ∙ ap (λ xs. made ++ able_actors i xs) (sym (drop_of_length-le able l)) ∙ h
 
--- Flags that are found one after another.
+-- Flags are found one after another.
 
--- so many flags are there, each of its thread
+-- there are `count` flags, each that of its thread
 pub record HasFlags (count : ℕ) (parts : List RunningPart) (threads : List ThreadState) (able : List Bool) : Type 0 where
   pub size : length able ≡ count
   pub each : (thread : ℕ) (t : ThreadState) → thread < count → slice_get threads thread ≡ Some t → slice_get able thread ≡ Some (has_step thread parts t)
@@ -139,31 +139,31 @@ able_elsewhere part e parts seat threads able a = record {
       ∙ ap {B = Option Bool} (λ (b : Bool). Some b) (elsewhere k part parts seat t (not_either (looks_at part t) (is_invocation k e) not));
 }
 
-pub able_stepped : (q : Option RunningPart) (place part : ℕ) (s : Step) (e : Event) (parts new : List RunningPart) (threads : List ThreadState) (able : List Bool)
-    → place ≡ part → IsSteppedSeat q parts place s new → AreAble parts threads able → AreAbleUpTo 0 part e new threads able
-able_stepped None place part s e parts new threads able same h a = absurd h
-able_stepped (Some seat) place part s e parts new threads able same h a =
+pub able_stepped : (q : Option RunningPart) (index part : ℕ) (s : Step) (e : Event) (parts new : List RunningPart) (threads : List ThreadState) (able : List Bool)
+    → index ≡ part → IsSteppedSeat q parts index s new → AreAble parts threads able → AreAbleUpTo 0 part e new threads able
+able_stepped None index part s e parts new threads able same h a = absurd h
+able_stepped (Some seat) index part s e parts new threads able same h a =
     subst (λ xs. AreAbleUpTo 0 part e xs threads able) (ap (λ (n : ℕ). slice_set parts n (part_after s seat)) (sym same) ∙ sym h.0)
     (able_elsewhere part e parts (part_after s seat) threads able a)
 
--- One thread more has heard the event.
+-- One more thread has heard the event.
 
 pub one_more_heard : (i part : ℕ) (e : Event) (parts : List RunningPart) (threads : List ThreadState) (able : List Bool) (t : ThreadState) (flag : Bool)
     → i < length threads → flag ≡ has_step i parts t → AreAbleUpTo i part e parts threads able
     → AreAbleUpTo (i + 1) part e parts (slice_set threads i t) (slice_set able i flag)
 one_more_heard i part e parts threads able t flag l h a = record {
   count = length-set able i flag ∙ a.count ∙ sym (length-set threads i t);
-  heard = λ k x m g. by_place k x m (get_set threads k i t x g);
+  heard = λ k x m g. by_position k x m (get_set threads k i t x g);
   later = λ k x m g not. by_later k x m not (get_set threads k i t x g);
 }
   where
-    by_place : (k : ℕ) (x : ThreadState) → k < i + 1 → ((k ≡ i) × (x ≡ t)) ⊎ ((k ≡ i → ⊥) × (slice_get threads k ≡ Some x))
+    by_position : (k : ℕ) (x : ThreadState) → k < i + 1 → ((k ≡ i) × (x ≡ t)) ⊎ ((k ≡ i → ⊥) × (slice_get threads k ≡ Some x))
         → slice_get (slice_set able i flag) k ≡ Some (has_step k parts x)
-    by_place k x m (inl same) =
+    by_position k x m (inl same) =
         ap (slice_get (slice_set able i flag)) (same.0)
         ∙ get_set_same able i (get_or able i flag) flag (slice_get-get_or able i flag (subst (λ (n : ℕ). i < n) (sym a.count) l))
         ∙ ap {B = Option Bool} (λ (b : Bool). Some b) (h ∙ ap (has_step i parts) (sym same.1) ∙ ap (λ (n : ℕ). has_step n parts x) (sym same.0))
-    by_place k x m (inr other) = get_set_other able k i flag other.0 ∙ a.heard k x (omega (arith, other.0)) other.1
+    by_position k x m (inr other) = get_set_other able k i flag other.0 ∙ a.heard k x (omega (arith, other.0)) other.1
 
     by_later : (k : ℕ) (x : ThreadState) → i + 1 ≤ k → concerns k part e x ≡ false
         → ((k ≡ i) × (x ≡ t)) ⊎ ((k ≡ i → ⊥) × (slice_get threads k ≡ Some x))

@@ -7,12 +7,12 @@ use Rattle.nook_data.specs.declared.memory.NoMemory.{NoMemory}
 use Rattle.run_defs.specs.Schedules.{Order, picked}
 use Rattle.run_defs.specs.Simulation.{Choice, RunningPart, Simulation, ThreadState, actor_of, choices_of, started}
 use Rattle.run_defs.specs.Simulation.{stepped_by, threads_after, thread_after}
-use Rattle.part_laws.proofs.Places.{length_map}
+use Rattle.part_laws.proofs.Indices.{length_map}
 use Rattle.sim_run.proofs.Choosing.{actors_named, choices_found, choices_open}
 use Rattle.sim_run.proofs.Picking.{picked_within}
-use Rattle.sim_run.proofs.Reaching.{IsPicked, at_place, picked_one}
+use Rattle.sim_run.proofs.Reaching.{IsPicked, at_position, picked_one}
 use Rattle.sim_run.specs.Actors.{actors_in, choice_at}
-use Rattle.sim_run.specs.Advanced.{IsPick, standing}
+use Rattle.sim_run.specs.Advanced.{IsPick, state_at}
 use Rattle.sim_run.specs.Published.{made, made_by}
 use Rattle.sim_run.specs.Reached.{MayTake}
 
@@ -27,8 +27,8 @@ none_picked s actors e l =
     let n : length actors ≡ length (map actor_of (choices_of s)) = ap length (e ∙ sym (actors_named s)) in
     (no_items actor_of (choices_of s) (omega arith), refl)
 
-pub place_within : (order : Order) (actors : List ℕ) (place : ℕ) → 0 < length actors → place ≡ (picked order actors).place → place < length actors
-place_within order actors place l e = subst (λ (n : ℕ). n < length actors) (sym e) (picked_within order actors l)
+pub position_within : (order : Order) (actors : List ℕ) (index : ℕ) → 0 < length actors → index ≡ (picked order actors).index → index < length actors
+position_within order actors index l e = subst (λ (n : ℕ). n < length actors) (sym e) (picked_within order actors l)
 
 pub map_at : (xs : List Choice) (i : ℕ) (c : Choice) → slice_get xs i ≡ Some c → slice_get (map actor_of xs) i ≡ Some c.actor
 map_at [] i c h = cc
@@ -38,17 +38,17 @@ map_at (x ∷ xs) zero c h = ap {B = Option ℕ} (λ (y : Choice). Some y.actor)
     inner h = cc
 map_at (x ∷ xs) (suc i) c h = map_at xs i c h
 
-pick_by : (s : Simulation) (actors : List ℕ) (place : ℕ) (order : Order) (o : Option Choice) (c : Choice) (seat : RunningPart)
-    → actors ≡ map actor_of (choices_of s) → 0 < length (choices_of s) → place ≡ (picked s.order actors).place → order ≡ (picked s.order actors).order
-    → o ≡ choice_at s.parts s.threads (slice_index actors place) → IsPicked s (choices_of s) c seat → IsPick s o (record s { order = order })
+pick_by : (s : Simulation) (actors : List ℕ) (index : ℕ) (order : Order) (o : Option Choice) (c : Choice) (seat : RunningPart)
+    → actors ≡ map actor_of (choices_of s) → 0 < length (choices_of s) → index ≡ (picked s.order actors).index → order ≡ (picked s.order actors).order
+    → o ≡ choice_at s.parts s.threads (slice_index actors index) → IsPicked s (choices_of s) c seat → IsPick s o (record s { order = order })
 unfolding made
-pick_by s actors place order o c seat a l p r h one =
-    let place' : (picked s.order (map actor_of (choices_of s))).place ≡ place = ap (λ xs. (picked s.order xs).place) (sym a) ∙ sym p in
+pick_by s actors index order o c seat a l p r h one =
+    let index' : (picked s.order (map actor_of (choices_of s))).index ≡ index = ap (λ xs. (picked s.order xs).index) (sym a) ∙ sym p in
     let order' : (picked s.order (map actor_of (choices_of s))).order ≡ order = ap (λ xs. (picked s.order xs).order) (sym a) ∙ sym r in
-    let at : slice_get (choices_of s) place ≡ Some c = ap (slice_get (choices_of s)) (sym place') ∙ one.found in
-    let actor : slice_index actors place ≡ c.actor =
-    ap (λ xs. slice_index xs place) a ∙ get_or_from_slice_get (map actor_of (choices_of s)) place c.actor 0 (map_at (choices_of s) place c at) in
-    let found : choice_at s.parts s.threads c.actor ≡ Some c = at_place (λ c. choice_at s.parts s.threads c.actor ≡ Some c) (choices_of s) place c (choices_found s) at in
+    let at : slice_get (choices_of s) index ≡ Some c = ap (slice_get (choices_of s)) (sym index') ∙ one.found in
+    let actor : slice_index actors index ≡ c.actor =
+    ap (λ xs. slice_index xs index) a ∙ get_or_from_slice_get (map actor_of (choices_of s)) index c.actor 0 (map_at (choices_of s) index c at) in
+    let found : choice_at s.parts s.threads c.actor ≡ Some c = at_position (λ c. choice_at s.parts s.threads c.actor ≡ Some c) (choices_of s) index c (choices_found s) at in
     let is : Some c ≡ o = sym found ∙ ap (choice_at s.parts s.threads) (sym actor) ∙ sym h in
     subst (λ o. IsPick s o (record s { order = order })) is (
       l,
@@ -59,16 +59,16 @@ pick_by s actors place order o c seat a l p r h one =
       one.found,
     )
 
-pub pick_is : (order order' : Order) (parts : List RunningPart) (threads : List ThreadState) (actors : List ℕ) (place : ℕ) (o : Option Choice)
-    → actors ≡ actors_in parts threads → 0 < length actors → place ≡ (picked order actors).place → order' ≡ (picked order actors).order
-    → o ≡ choice_at parts threads (slice_index actors place) → IsPick (standing order parts threads) o (standing order' parts threads)
-pick_is order order' parts threads actors place o a l p r h =
-    let s : Simulation = standing order parts threads in
+pub pick_is : (order order' : Order) (parts : List RunningPart) (threads : List ThreadState) (actors : List ℕ) (index : ℕ) (o : Option Choice)
+    → actors ≡ actors_in parts threads → 0 < length actors → index ≡ (picked order actors).index → order' ≡ (picked order actors).order
+    → o ≡ choice_at parts threads (slice_index actors index) → IsPick (state_at order parts threads) o (state_at order' parts threads)
+pick_is order order' parts threads actors index o a l p r h =
+    let s : Simulation = state_at order parts threads in
     let a' : actors ≡ map actor_of (choices_of s) = a ∙ sym (actors_named s) in
     let n : length actors ≡ length (choices_of s) = ap length a' ∙ length_map actor_of (choices_of s) in
     let some : 0 < length (choices_of s) = omega arith in
     let one = picked_one s (choices_of s) (choices_open s) some in
-    pick_by s actors place order' o one.0 one.1.0 a' some p r h one.1.1
+    pick_by s actors index order' o one.0 one.1.0 a' some p r h one.1.1
 
 -- Threads hear an event one after another.
 
@@ -117,15 +117,15 @@ heard_more part e threads now i d new l h n =
     plus : (i k : ℕ) → k ≡ i → i ≡ 0 + k
     plus i k e = omega arith
 
--- What is said of a choice, said of a result.
+-- A property of a choice, as a property of a result.
 
 pub pick_result : (r : Result (Option Choice) NoMemory) (order order' : Order) (parts : List RunningPart) (threads : List ThreadState)
-    (ready listed : List ℕ) (place actor : ℕ) → ready ≡ actors_in parts threads → listed ≡ ready
-    → place ≡ (picked order listed).place → order' ≡ (picked order listed).order → place < length listed → actor ≡ get_or ready place actor
-    → IfOk r (λ o. o ≡ choice_at parts threads actor) → IfOk r (λ o. IsPick (standing order parts threads) o (standing order' parts threads))
-pick_result (Err x) order order' parts threads ready listed place actor a e p n w at h = h
-pick_result (Ok o) order order' parts threads ready listed place actor a e p n w at h =
+    (ready listed : List ℕ) (index actor : ℕ) → ready ≡ actors_in parts threads → listed ≡ ready
+    → index ≡ (picked order listed).index → order' ≡ (picked order listed).order → index < length listed → actor ≡ get_or ready index actor
+    → IfOk r (λ o. o ≡ choice_at parts threads actor) → IfOk r (λ o. IsPick (state_at order parts threads) o (state_at order' parts threads))
+pick_result (Err x) order order' parts threads ready listed index actor a e p n w at h = h
+pick_result (Ok o) order order' parts threads ready listed index actor a e p n w at h =
     let size : length listed ≡ length ready = ap length e in
-    let within : place < length ready = omega arith in
-    pick_is order order' parts threads ready place o a (omega arith) (p ∙ ap (λ xs. (picked order xs).place) e) (n ∙ ap (λ xs. (picked order xs).order) e)
-    (h ∙ ap (choice_at parts threads) (at ∙ get_or_default ready place actor 0 within))
+    let within : index < length ready = omega arith in
+    pick_is order order' parts threads ready index o a (omega arith) (p ∙ ap (λ xs. (picked order xs).index) e) (n ∙ ap (λ xs. (picked order xs).order) e)
+    (h ∙ ap (choice_at parts threads) (at ∙ get_or_default ready index actor 0 within))

@@ -1,15 +1,15 @@
--- Each step that may be next, by the index of its actor.
+-- Each possible next step, by the index of its actor.
 use Rattle.std.proofs.Common.{◌≡◌, ℕ, zero, suc, ◌<◌, Option, Some, None, List, [], ◌∷◌, length, map, slice_get, slice_index, refl, sym, ap}
 use Rattle.std.proofs.Common.{◌∙◌, subst, arith}
 use Rattle.std.proofs.lemmas.Option.{get_or_from_slice_get}
-use Rattle.part_laws.proofs.Places.{length_map}
+use Rattle.part_laws.proofs.Indices.{length_map}
 use Rattle.run_defs.specs.Schedules.{round}
 use Rattle.run_defs.specs.Simulation.{Choice, RunningPart, Simulation, ThreadState, actor_of, choices_of}
 use Rattle.sim_run.proofs.Advancing.{map_at}
 use Rattle.sim_run.proofs.Choosing.{actors_named, choices_found, choices_open}
-use Rattle.sim_run.proofs.Reaching.{at_place}
+use Rattle.sim_run.proofs.Reaching.{at_position}
 use Rattle.sim_run.specs.Actors.{actors_in, choice_at}
-use Rattle.sim_run.specs.Advanced.{standing}
+use Rattle.sim_run.specs.Advanced.{state_at}
 use Rattle.sim_run.specs.Reached.{IsOpenChoice}
 
 some_at : {X : Type 0} (xs : List X) (i : ℕ) → i < length xs → (x : X) × (slice_get xs i ≡ Some x)
@@ -34,11 +34,11 @@ chosen_at s actors index o a l h =
     ap (λ xs. slice_index xs index) named
     ∙ get_or_from_slice_get (map actor_of (choices_of s)) index c.actor 0 (map_at (choices_of s) index c one.1) in
     let found : choice_at s.parts s.threads c.actor ≡ Some c =
-    at_place (λ c. choice_at s.parts s.threads c.actor ≡ Some c) (choices_of s) index c (choices_found s) one.1 in record {
+    at_position (λ c. choice_at s.parts s.threads c.actor ≡ Some c) (choices_of s) index c (choices_found s) one.1 in record {
       choice = c;
       is = h ∙ ap (choice_at s.parts s.threads) actor ∙ found;
       at = one.1;
-      may = at_place (IsOpenChoice s.parts) (choices_of s) index c (choices_open s) one.1;
+      may = at_position (IsOpenChoice s.parts) (choices_of s) index c (choices_open s) one.1;
     }
 
 pub within_actors : (s : Simulation) (actors : List ℕ) (index : ℕ) → actors ≡ actors_in s.parts s.threads
@@ -48,21 +48,21 @@ within_actors s actors index a l =
     let size : length (map actor_of (choices_of s)) ≡ length (choices_of s) = length_map actor_of (choices_of s) in
     omega arith
 
--- ---- the same of parts and threads that stand under any schedule
+-- ---- the same for parts and threads, under any schedule
 
-pub choices_stand : (s : Simulation) → choices_of (standing (round 0) s.parts s.threads) ≡ choices_of s
+pub choices_hold : (s : Simulation) → choices_of (state_at (round 0) s.parts s.threads) ≡ choices_of s
 unfolding choices_of
-choices_stand s = refl
+choices_hold s = refl
 
 pub chosen_is : (parts : List RunningPart) (threads : List ThreadState) (actors : List ℕ) (index : ℕ) (o : Option Choice)
-    → actors ≡ actors_in parts threads → index < length (choices_of (standing (round 0) parts threads))
-    → o ≡ choice_at parts threads (slice_index actors index) → IsChosenAt (standing (round 0) parts threads) index o
-chosen_is parts threads actors index o a l h = chosen_at (standing (round 0) parts threads) actors index o a l h
+    → actors ≡ actors_in parts threads → index < length (choices_of (state_at (round 0) parts threads))
+    → o ≡ choice_at parts threads (slice_index actors index) → IsChosenAt (state_at (round 0) parts threads) index o
+chosen_is parts threads actors index o a l h = chosen_at (state_at (round 0) parts threads) actors index o a l h
 
 pub index_within : (parts : List RunningPart) (threads : List ThreadState) (actors : List ℕ) (index : ℕ)
-    → actors ≡ actors_in parts threads → index < length (choices_of (standing (round 0) parts threads))
+    → actors ≡ actors_in parts threads → index < length (choices_of (state_at (round 0) parts threads))
     → index < length actors
-index_within parts threads actors index a l = within_actors (standing (round 0) parts threads) actors index a l
+index_within parts threads actors index a l = within_actors (state_at (round 0) parts threads) actors index a l
 
 pub none_chosen : (s : Simulation) (index : ℕ) (o : Option Choice) → IsChosenAt s index o → o ≡ None → ⊥
 none_chosen s index o i none = absurd (differ (sym none ∙ i.is))

@@ -18,14 +18,14 @@ use Rattle.machine_defs.proofs.BurstKeeps.{split}
 use Rattle.sim_run.specs.Actors.{choice_by, invocation_of, choice_when, choice_of_thread, step_of_seat, choice_of_seat, choice_at, named_if, actors_of_seat, actors_of_seats, actor_of_thread, actors_of_threads}
 use Rattle.sim_run.specs.Reached.{MayTake, IsOpenChoice}
 
--- A choice before others is one of them where there is a step.
+-- A choice followed by others is one of them, if there is a step.
 
 all_with : (P : Choice → Type 0) (actor part : ℕ) (o : Option Step) (choices : List Choice)
     → ((c : Choice) → choice_by actor part o ≡ Some c → P c) → AllByRecursion P choices → AllByRecursion P (with_choice actor part o choices)
 all_with P actor part None choices here more = more
 all_with P actor part (Some s) choices here more = (here (record { actor = actor; part = part; step = s }) refl, more)
 
--- what holds of each actor's choice holds of all choices
+-- a property of each actor's choice holds for all choices
 
 all_invocation : (P : Choice → Type 0) (thread : ℕ) (parts : List RunningPart) (rest : List (ℕ × Op)) (choices : List Choice)
     → ((c : Choice) → invocation_of thread parts rest ≡ Some c → P c) → AllByRecursion P choices
@@ -292,7 +292,7 @@ actors_named s =
     ∙ named_threads 0 s.parts s.threads (part_choices (length s.threads) 0 s.parts)
     ∙ ap (λ xs. actors_of_threads 0 s.parts s.threads ++ xs) (named_seats (length s.threads) 0 s.parts)
 
--- whether there is an invocation tells which one
+-- whether there is an invocation determines which one it is
 
 pub some_invocation : (thread : ℕ) (o : Op) (q : Option RunningPart) → is_some (invocation thread o q) ≡ true
     → invocation thread o q ≡ Some (step.Invoke thread o)
@@ -307,7 +307,7 @@ no_invocation thread o (Some seat) h = split (enabled seat.run.state (step.Invok
     (λ e. absurd (true≢false (rw e at h)))
     (λ e. rw e)
 
--- One thread or part more of a list that is gone over.
+-- One more thread or part of a list is looked at.
 
 pub drop_at : {X : Type 0} (xs : List X) (i n : ℕ) (x : X) → slice_get xs i ≡ Some x → n ≡ suc i → drop i xs ≡ x ∷ drop n xs
 drop_at [] i n x h e = cc

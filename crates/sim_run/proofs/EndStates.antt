@@ -1,4 +1,4 @@
--- What each part of a whole run ends in is what its journal leads to.
+-- Each part of a whole run ends in the state that its journal leads to.
 use Rattle.std.proofs.Common.{◌≡◌, IfOk, map, Result, Ok, Err, List, [], ◌∷◌, sym, ap, ◌∙◌, subst}
 use Rattle.nook_data.specs.declared.steps.Event.{Event}
 use Rattle.nook_data.specs.declared.scenario.PartSpec.{PartSpec}
@@ -11,13 +11,13 @@ use Rattle.run_defs.specs.Simulation.{IsScheduledRun, RunningPart, Simulation, j
 use Rattle.part_defs.specs.State.{PartState}
 use Rattle.part_defs.specs.Steps.{opening}
 use Rattle.part_laws.proofs.DeviceStays.{opening_spec, spec_from}
-use Rattle.report_text.specs.Whole.{HaveEnds, ShowsState, objects_from}
+use Rattle.run_results.specs.Reports.{HaveEnds, ShowsState, objects_from}
 use Rattle.sim_run.proofs.Reaching.{seats_of_runs}
 use Rattle.run_ends.specs.declared.whole_run.WholeRun.{WholeRun}
 use Rattle.run_ends.specs.Ends.{end_of, objects_in}
 use Rattle.sim_run.specs.Ends.{ends_of}
 use Rattle.sim_run.specs.Reached.{AreSeatsOf, IsSeatOf}
-use Rattle.run_ends.specs.Journals.{events_in}
+use Rattle.run_results.specs.Journals.{events_in}
 
 shows : (spec : PartSpec) (seat : RunningPart) (events : List Event) → IsSeatOf spec seat → events ≡ seat.run.journal
     → ShowsState spec (state_of spec events) (end_of seat.run.state)
@@ -46,9 +46,9 @@ ends_at : (specs : List PartSpec) (seats : List RunningPart) (x : WholeRun) → 
     → map events_in x.run.journals ≡ map journal_of seats → x.ends ≡ ends_of seats → HaveEnds specs x.run.journals x.ends
 ends_at specs seats x a j e = rw e (have_ends specs seats x.run.journals a j)
 
-pub ends_told : (r : Result WholeRun NoMemory) (scenario : Scenario) (s : Simulation) → IsScheduledRun scenario s
+pub ends_reported : (r : Result WholeRun NoMemory) (scenario : Scenario) (s : Simulation) → IsScheduledRun scenario s
     → IfOk r (λ x. map events_in x.run.journals ≡ journals_of s) → IfOk r (λ x. x.ends ≡ ends_of s.parts)
     → IfOk r (λ x. HaveEnds scenario.parts x.run.journals x.ends)
-ends_told (Err x) scenario s h j e = e
-ends_told (Ok x) scenario s h j e = ends_at scenario.parts s.parts x
+ends_reported (Err x) scenario s h j e = e
+ends_reported (Ok x) scenario s h j e = ends_at scenario.parts s.parts x
     (subst (λ (y : Simulation). AreSeatsOf scenario.parts y.parts) h.reached (seats_of_runs scenario h.steps)) j e

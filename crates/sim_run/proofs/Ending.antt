@@ -8,14 +8,14 @@ use Rattle.run_defs.specs.Simulation.{Choice, IsScheduledRun, Simulation, answer
 use Rattle.run_defs.specs.Simulation.{runs, taken}
 use Rattle.nook_data.specs.Valid.{IsValidScenario}
 use Rattle.run_ends.specs.declared.whole_run.WholeRun.{WholeRun}
-use Rattle.request_taps.specs.Bus.{result_of, told_all}
+use Rattle.request_taps.specs.Bus.{result_of, after_hearing_all}
 use Rattle.request_taps.specs.declared.tap.Tap.{Tap}
-use Rattle.run_ends.proofs.Told.{told_all_append}
+use Rattle.run_ends.proofs.Heard.{after_hearing_all_append}
 use Rattle.sim_run.proofs.Publishing.{published_back}
 use Rattle.sim_run.proofs.Reaching.{few_events, none_at_first, one_event_more, runs_back, runs_front, runs_still, runs_of_seats, seats_of_runs}
 use Rattle.sim_run.specs.Advanced.{IsAdvanced}
 use Rattle.sim_run.specs.Published.{HearsStep, made, moved, published}
-use Rattle.run_ends.specs.Journals.{AreRuns, events_in}
+use Rattle.run_results.specs.Journals.{AreRuns, events_in}
 use Rattle.sim_run.specs.Whole.{HeardSteps, IsSimulated, IsWhole}
 
 -- The run of a scenario, step by step, and its end.
@@ -24,14 +24,14 @@ pub moved_some : (s : Simulation) (choices : List Choice) → 0 < length choices
 moved_some s [] l = absurd (omega arith)
 moved_some s (c ∷ choices) l = refl
 
--- so many steps of the run were taken, so many events made, and the taps heard them
+-- n steps of the run were taken, n events were made, and the taps heard them
 pub record HasRun (scenario : Scenario) (n : ℕ) (s : Simulation) (old new : List (Tap Listening)) : Type 0 where
   pub reached : runs n (begins scenario) ≡ s
   pub counted : events_count (journals_of s) ≡ n
   pub heard : HeardSteps scenario n old new
 
 pub has_begun : (scenario : Scenario) (s : Simulation) (old : List (Tap Listening)) → s ≡ begins scenario → HasRun scenario 0 s old old
-unfolding runs published told_all
+unfolding runs published after_hearing_all
 has_begun scenario s old e = record {
   reached = sym e;
   counted = ap (λ (x : Simulation). events_count (journals_of x)) e ∙ none_at_first scenario;
@@ -39,13 +39,13 @@ has_begun scenario s old e = record {
 }
 
 heard_on : (scenario : Scenario) (n : ℕ) (s : Simulation) (old now new : List (Tap Listening)) → HasRun scenario n s old now
-    → new ≡ told_all (made s (choices_of s)) now → HeardSteps scenario (n + 1) old new
+    → new ≡ after_hearing_all (made s (choices_of s)) now → HeardSteps scenario (n + 1) old new
 heard_on scenario n s old now new h e =
-    e ∙ ap (told_all (made s (choices_of s))) h.heard
-    ∙ sym (told_all_append (published n (begins scenario)) (made s (choices_of s)) old)
-    ∙ ap (λ (x : Simulation). told_all (published n (begins scenario) ++ made x (choices_of x)) old) (sym h.reached)
-    ∙ ap (λ xs. told_all xs old) (sym (published_back n (begins scenario)))
-    ∙ ap (λ (k : ℕ). told_all (published k (begins scenario)) old) (sym (add-one n))
+    e ∙ ap (after_hearing_all (made s (choices_of s))) h.heard
+    ∙ sym (after_hearing_all_append (published n (begins scenario)) (made s (choices_of s)) old)
+    ∙ ap (λ (x : Simulation). after_hearing_all (published n (begins scenario) ++ made x (choices_of x)) old) (sym h.reached)
+    ∙ ap (λ xs. after_hearing_all xs old) (sym (published_back n (begins scenario)))
+    ∙ ap (λ (k : ℕ). after_hearing_all (published k (begins scenario)) old) (sym (add-one n))
 
 pub has_run_on : (scenario : Scenario) (n : ℕ) (s t : Simulation) (some : Bool) (old now new : List (Tap Listening)) → HasRun scenario n s old now
     → IsAdvanced s some t → HearsStep s (Ok some) now new → some ≡ true → HasRun scenario (n + 1) t old new
@@ -71,9 +71,9 @@ has_ended scenario n s t false old now new h a e false' = record {
   heard = e ∙ h.heard;
 }
 
--- where memory was wanting
+-- if memory ran out
 pub has_stopped : (scenario : Scenario) (n : ℕ) (s : Simulation) (old now new : List (Tap Listening)) → HasRun scenario n s old now
-    → (new ≡ now) ⊎ (new ≡ told_all (made s (choices_of s)) now) → (steps : ℕ) × HeardSteps scenario steps old new
+    → (new ≡ now) ⊎ (new ≡ after_hearing_all (made s (choices_of s)) now) → (steps : ℕ) × HeardSteps scenario steps old new
 has_stopped scenario n s old now new h e = elim e [
   | inl same ↦ (n, same ∙ h.heard)
   | inr more ↦ (n + 1, heard_on scenario n s old now new h more)
@@ -92,21 +92,21 @@ runs_scheduled scenario s h =
     subst (λ (x : Simulation). AreRuns scenario.parts (journals_of x)) h.reached
     (runs_of_seats scenario.parts (runs h.steps (begins scenario)).parts (seats_of_runs scenario h.steps))
 
-pub runs_told : {R E : Type 0} (r : Result R E) (journals : R → List (List Event)) (scenario : Scenario) (s : Simulation) → IsScheduledRun scenario s
+pub runs_reported : {R E : Type 0} (r : Result R E) (journals : R → List (List Event)) (scenario : Scenario) (s : Simulation) → IsScheduledRun scenario s
     → IfOk r (λ x. journals x ≡ journals_of s) → IfOk r (λ x. AreRuns scenario.parts (journals x))
-runs_told (Err x) journals scenario s h e = e
-runs_told (Ok x) journals scenario s h e = subst (AreRuns scenario.parts) (sym e) (runs_scheduled scenario s h)
+runs_reported (Err x) journals scenario s h e = e
+runs_reported (Ok x) journals scenario s h e = subst (AreRuns scenario.parts) (sym e) (runs_scheduled scenario s h)
 
 pub none_heard : (scenario : Scenario) (taps : List (Tap Listening)) → HeardSteps scenario 0 taps taps
-unfolding published told_all
+unfolding published after_hearing_all
 none_heard scenario taps = refl
 
-pub simulated_told : (r : Result WholeRun NoMemory) (scenario : Scenario) (s : Simulation) (totals : List (ℕ × Bool)) (old new : List (Tap Listening))
+pub simulated_reported : (r : Result WholeRun NoMemory) (scenario : Scenario) (s : Simulation) (totals : List (ℕ × Bool)) (old new : List (Tap Listening))
     → IsWhole scenario s old new → IfOk r (λ x. map events_in x.run.journals ≡ journals_of s) → IfOk r (λ x. x.run.answers ≡ answer_table s)
     → IfOk r (λ x. x.run.taps ≡ totals) → totals ≡ map result_of new
     → IfOk r (λ x. IsSimulated scenario x.run.journals x.run.answers x.run.taps old new)
-simulated_told (Err x) scenario s totals old new w j a t m = j
-simulated_told (Ok x) scenario s totals old new w j a t m = record {
+simulated_reported (Err x) scenario s totals old new w j a t m = j
+simulated_reported (Ok x) scenario s totals old new w j a t m = record {
   simulation = s;
   scheduled = w.scheduled;
   same_journals = j;
@@ -115,7 +115,7 @@ simulated_told (Ok x) scenario s totals old new w j a t m = record {
   same_totals = t ∙ m;
 }
 
--- The scheduled run is one, and there is one.
+-- There is exactly one scheduled run.
 
 pub runs_add : (n k : ℕ) (s : Simulation) → runs (n + k) s ≡ runs k (runs n s)
 unfolding runs

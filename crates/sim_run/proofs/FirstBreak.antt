@@ -5,7 +5,7 @@ use Rattle.std.proofs.Common.{drop, slice_get, slice_set, take, refl, sym, ap, �
 use Rattle.std.proofs.Common.{length-append}
 use Rattle.std.proofs.lemmas.Bool.{false≢true}
 use Rattle.std.proofs.lemmas.Option.{slice_get-get_or, slice_get_within}
-use Rattle.contract_monitor.specs.Monitors.{Monitored, StandsFor}
+use Rattle.contract_monitor.specs.Monitors.{Monitored, Represents}
 use Rattle.guard_defs.specs.FirstBreaks.{NoneBreaks, picked_choice}
 use Rattle.guard_defs.specs.GuardedRuns.{known_of, spec_of}
 use Rattle.nook_data.specs.Types.{Break, Class, Clause, Event, PartSpec, Scenario, Step}
@@ -15,7 +15,7 @@ use Rattle.nook_data.specs.declared.steps.Event.TheVariants as event
 use Rattle.nook_data.specs.declared.steps.Step.TheVariants as step
 use Rattle.part_defs.specs.Runs.{event_of, step_of}
 use Rattle.part_laws.proofs.DeviceStays.{spec_after}
-use Rattle.part_laws.proofs.Places.{from_map, get_set, get_set_same, some_same}
+use Rattle.part_laws.proofs.Indices.{from_map, get_set, get_set_same, some_same}
 use Rattle.part_laws.proofs.RunsDetermined.{step_named}
 use Rattle.promise_defs.proofs.PromiseChanges.{break_or}
 use Rattle.promise_defs.specs.Contract.{Known, break_from, broken, first_break, known_after, known_first}
@@ -27,16 +27,16 @@ use Rattle.sim_run.proofs.Reaching.{runs_back}
 use Rattle.sim_run.proofs.Seeking.{front_taken, has_seat, hears_none, pick_taken}
 use Rattle.sim_run.proofs.Taking.{last_of}
 use Rattle.sim_run.specs.Advanced.{IsAdvanced, IsPick}
-use Rattle.sim_run.specs.Breaks.{BreaksBehind, HasBreakBehind, IsWrongBurst}
+use Rattle.sim_run.specs.Breaks.{BreaksAfter, HasBreakAfter, IsWrongBurst}
 use Rattle.sim_run.specs.Bursts.{IsFoundIn, shown_burst, shown_step}
 use Rattle.sim_run.specs.Published.{moved}
 use Rattle.sim_run.specs.Reached.{IsOpenChoice}
-use Rattle.sim_run.specs.Watched.{HasSeen, HasSeenAt, HaveSeen, IsOneBehind, IsOneBehindAt, first_break_of}
+use Rattle.sim_run.specs.Watched.{HasSeen, HasSeenAt, HaveSeen, IsOneAfter, IsOneAfterAt, first_break_of}
 use Rattle.sim_run.specs.Watched.{has_broken_at}
 use Rattle.sim_run.specs.declared.breaking.WrongBurst.{WrongBurst}
 use Rattle.sim_run.specs.declared.whole_run.FoundBurst.{FoundBurst}
 
--- An event that breaks a clause, behind a journal that breaks none.
+-- An event that breaks a clause, after a journal that breaks none.
 
 -- the event breaks some clauses
 pub record IsBreaking (k : Known) (e : Event) : Type 0 where
@@ -47,21 +47,21 @@ pub record IsBreaking (k : Known) (e : Event) : Type 0 where
 not_none : (b : Break) → Some b ≡ None → ⊥
 not_none b h = cc
 
-breaks_last : (place : ℕ) (k : Known) (events : List Event) (e : Event) → break_from place k events ≡ None
-    → is_some (break_from place k (events ++ e ∷ [])) ≡ true → IsBreaking (fold known_after k events) e
+breaks_last : (index : ℕ) (k : Known) (events : List Event) (e : Event) → break_from index k events ≡ None
+    → is_some (break_from index k (events ++ e ∷ [])) ≡ true → IsBreaking (fold known_after k events) e
 unfolding break_from
-breaks_last place k [] e none some = by_clauses (broken k e) refl some
+breaks_last index k [] e none some = by_clauses (broken k e) refl some
   where
-    by_clauses : (cs : List Clause) → broken k e ≡ cs → is_some (break_or place cs None) ≡ true → IsBreaking k e
+    by_clauses : (cs : List Clause) → broken k e ≡ cs → is_some (break_or index cs None) ≡ true → IsBreaking k e
     by_clauses [] h some = absurd (false≢true some)
     by_clauses (c ∷ more) h some = record { clause = c; more = more; breaks = h }
-breaks_last place k (x ∷ events) e none some =
-    by_clauses (broken k x) none some (breaks_last (suc place) (known_after k x) events e)
+breaks_last index k (x ∷ events) e none some =
+    by_clauses (broken k x) none some (breaks_last (suc index) (known_after k x) events e)
   where
-    by_clauses : (cs : List Clause) → break_or place cs (break_from (suc place) (known_after k x) events) ≡ None
-        → is_some (break_or place cs (break_from (suc place) (known_after k x) (events ++ e ∷ []))) ≡ true
-        → (break_from (suc place) (known_after k x) events ≡ None
-        → is_some (break_from (suc place) (known_after k x) (events ++ e ∷ [])) ≡ true
+    by_clauses : (cs : List Clause) → break_or index cs (break_from (suc index) (known_after k x) events) ≡ None
+        → is_some (break_or index cs (break_from (suc index) (known_after k x) (events ++ e ∷ []))) ≡ true
+        → (break_from (suc index) (known_after k x) events ≡ None
+        → is_some (break_from (suc index) (known_after k x) (events ++ e ∷ [])) ≡ true
         → IsBreaking (fold known_after (known_after k x) events) e)
         → IsBreaking (fold known_after (known_after k x) events) e
     by_clauses [] none some again = again none some
@@ -85,7 +85,7 @@ burst_breaks k (event.Enter call thread attempt answer) s h b = absurd (nothing 
 burst_breaks k (event.Stage stage answers released) s h b = absurd (nothing b.clause b.more b.breaks)
 burst_breaks k (event.Arrive frame kept) s h b = absurd (nothing b.clause b.more b.breaks)
 
--- a part's step does not change what it is made from
+-- a part's step does not change its spec
 with_spec : (P : PartSpec → Type 0) (seat : RunningPart) (s : Step) → P (spec_of seat) → P (spec_of (part_after s seat))
 with_spec P seat s h = subst P (sym (spec_after seat.run.state s)) h
 
@@ -102,22 +102,22 @@ step_breaks seat s none some =
 
 -- none of the parts has
 abbrev AreUnbroken : List RunningPart → Type 0
-AreUnbroken parts = (place : ℕ) (seat : RunningPart) → slice_get parts place ≡ Some seat → first_break_of seat ≡ None
+AreUnbroken parts = (index : ℕ) (seat : RunningPart) → slice_get parts index ≡ Some seat → first_break_of seat ≡ None
 
 kept_at_first : (scenario : Scenario) → NoneBreaks (begins scenario)
 unfolding begins first_break break_from
-kept_at_first scenario = λ place seat at.
-    let one = from_map opening_part scenario.parts place seat at in ap first_break_of one.2
+kept_at_first scenario = λ index seat at.
+    let one = from_map opening_part scenario.parts index seat at in ap first_break_of one.2
 
 kept_set : (parts : List RunningPart) (i : ℕ) (new : RunningPart) → AreUnbroken parts → first_break_of new ≡ None
     → AreUnbroken (slice_set parts i new)
-kept_set parts i new kept one = λ place seat at. by_place place seat (get_set parts place i new seat at)
+kept_set parts i new kept one = λ index seat at. by_position index seat (get_set parts index i new seat at)
   where
-    by_place : (place : ℕ) (seat : RunningPart)
-        → ((place ≡ i) × (seat ≡ new)) ⊎ ((place ≡ i → ⊥) × (slice_get parts place ≡ Some seat))
+    by_position : (index : ℕ) (seat : RunningPart)
+        → ((index ≡ i) × (seat ≡ new)) ⊎ ((index ≡ i → ⊥) × (slice_get parts index ≡ Some seat))
         → first_break_of seat ≡ None
-    by_place place seat (inl same) = ap first_break_of same.1 ∙ one
-    by_place place seat (inr other) = kept place seat other.1
+    by_position index seat (inl same) = ap first_break_of same.1 ∙ one
+    by_position index seat (inr other) = kept index seat other.1
 
 -- Monitors, one for each part.
 
@@ -154,97 +154,97 @@ seen_set (y ∷ seats) (x ∷ monitors) (suc i) seat m all one = (all.0, seen_se
 -- A part's monitor sees its newest event.
 
 -- the part has made an event
-pub has_newest : (seat : RunningPart) (m : Monitored) → IsOneBehind seat m → 0 < length seat.run.journal
+pub has_newest : (seat : RunningPart) (m : Monitored) → IsOneAfter seat m → 0 < length seat.run.journal
 has_newest seat m b =
     let size : length seat.run.journal ≡ length (b.front ++ b.newest ∷ []) = ap length b.journal in
     let count : length (b.front ++ b.newest ∷ []) ≡ length b.front + 1 = length-append b.front (b.newest ∷ []) in
     omega arith
 
--- the newest event is the one that the monitor lacks
-newest_is : (seat : RunningPart) (m : Monitored) (e : Event) (b : IsOneBehind seat m)
+-- the newest event is the one that the monitor has not seen
+newest_is : (seat : RunningPart) (m : Monitored) (e : Event) (b : IsOneAfter seat m)
     → slice_get seat.run.journal (length seat.run.journal - 1) ≡ Some e → e ≡ b.newest
 newest_is seat m e b h =
     last_of b.front b.newest e
     (subst (λ (events : List Event). slice_get events (length events - 1) ≡ Some e) b.journal h)
 
--- so the monitor has seen the whole journal when it has seen that event
-pub caught_up : (seat : RunningPart) (m n : Monitored) (e : Event) → IsOneBehind seat m
+-- so the monitor has seen the whole journal once it has seen that event
+pub caught_up : (seat : RunningPart) (m n : Monitored) (e : Event) → IsOneAfter seat m
     → slice_get seat.run.journal (length seat.run.journal - 1) ≡ Some e
-    → ((class : Class) (size : ℕ) (events : List Event) → StandsFor class size events m
-    → StandsFor class size (events ++ e ∷ []) n) → HasSeen seat n
+    → ((class : Class) (size : ℕ) (events : List Event) → Represents class size events m
+    → Represents class size (events ++ e ∷ []) n) → HasSeen seat n
 caught_up seat m n e b h more =
-    subst (λ (events : List Event). StandsFor (spec_of seat).class (spec_of seat).blocks events n)
+    subst (λ (events : List Event). Represents (spec_of seat).class (spec_of seat).blocks events n)
     (ap (λ (x : Event). b.front ++ x ∷ []) (newest_is seat m e b h) ∙ sym b.journal)
     (more (spec_of seat).class (spec_of seat).blocks b.front b.seen)
 
--- A choice is taken, and the monitor of its part is one event behind.
+-- A choice is taken, and the monitor of its part then lacks one event.
 
-stepped_at : (s u : Simulation) (c : Choice) (place : ℕ) (seat : RunningPart) → slice_get s.parts c.part ≡ Some seat
-    → u ≡ stepped_by s s.order c (slice_get s.parts c.part) → place ≡ c.part
-    → (u.parts ≡ slice_set s.parts place (part_after c.step seat))
-    × (slice_get u.parts place ≡ Some (part_after c.step seat))
-stepped_at s u c place seat at e p =
+stepped_at : (s u : Simulation) (c : Choice) (index : ℕ) (seat : RunningPart) → slice_get s.parts c.part ≡ Some seat
+    → u ≡ stepped_by s s.order c (slice_get s.parts c.part) → index ≡ c.part
+    → (u.parts ≡ slice_set s.parts index (part_after c.step seat))
+    × (slice_get u.parts index ≡ Some (part_after c.step seat))
+stepped_at s u c index seat at e p =
     let new : RunningPart = part_after c.step seat in
-    let left : u.parts ≡ slice_set s.parts place new =
+    let left : u.parts ≡ slice_set s.parts index new =
     ap (λ (x : Simulation). x.parts) (e ∙ ap (stepped_by s s.order c) at)
     ∙ ap (λ (n : ℕ). slice_set s.parts n new) (sym p) in
-    let here : slice_get s.parts place ≡ Some seat = ap (slice_get s.parts) p ∙ at in
-    (left, ap (λ (xs : List RunningPart). slice_get xs place) left ∙ get_set_same s.parts place seat new here)
+    let here : slice_get s.parts index ≡ Some seat = ap (slice_get s.parts) p ∙ at in
+    (left, ap (λ (xs : List RunningPart). slice_get xs index) left ∙ get_set_same s.parts index seat new here)
 
-pub is_one_behind : (s u : Simulation) (c : Choice) (place : ℕ) (monitors : List Monitored) (other : Monitored)
+pub is_one_after : (s u : Simulation) (c : Choice) (index : ℕ) (monitors : List Monitored) (other : Monitored)
     → IsOpenChoice s.parts c → HaveSeen s.parts monitors → u ≡ stepped_by s s.order c (slice_get s.parts c.part)
-    → place ≡ c.part → IsOneBehindAt (slice_get u.parts place) (get_or monitors place other)
-is_one_behind s u c place monitors other may all e p =
+    → index ≡ c.part → IsOneAfterAt (slice_get u.parts index) (get_or monitors index other)
+is_one_after s u c index monitors other may all e p =
     let here = has_seat c s.parts (slice_get s.parts c.part) refl may in
     let seat : RunningPart = here.0 in
-    let at : slice_get s.parts place ≡ Some seat = ap (slice_get s.parts) p ∙ here.1 in
-    let within : place < length s.parts = slice_get_within s.parts place seat at in
+    let at : slice_get s.parts index ≡ Some seat = ap (slice_get s.parts) p ∙ here.1 in
+    let within : index < length s.parts = slice_get_within s.parts index seat at in
     let count : length monitors ≡ length s.parts = seen_length s.parts monitors all in
-    let m : Monitored = get_or monitors place other in
-    let there : slice_get monitors place ≡ Some m = slice_get-get_or monitors place other (omega arith) in
-    let seen : HasSeen seat m = seen_at s.parts monitors place seat m all at there in
-    subst (λ (o : Option RunningPart). IsOneBehindAt o m) (sym (stepped_at s u c place seat here.1 e p).1) (record {
+    let m : Monitored = get_or monitors index other in
+    let there : slice_get monitors index ≡ Some m = slice_get-get_or monitors index other (omega arith) in
+    let seen : HasSeen seat m = seen_at s.parts monitors index seat m all at there in
+    subst (λ (o : Option RunningPart). IsOneAfterAt o m) (sym (stepped_at s u c index seat here.1 e p).1) (record {
       front = seat.run.journal;
       newest = event_of seat.run.state c.step;
       journal = refl;
-      seen = with_spec (λ (spec : PartSpec). StandsFor spec.class spec.blocks seat.run.journal m) seat c.step seen;
+      seen = with_spec (λ (spec : PartSpec). Represents spec.class spec.blocks seat.run.journal m) seat c.step seen;
     })
 
 -- the choice's part has a monitor
-pub monitor_within : (s : Simulation) (c : Choice) (place : ℕ) (monitors : List Monitored) → IsOpenChoice s.parts c
-    → HaveSeen s.parts monitors → place ≡ c.part → place < length monitors
-monitor_within s c place monitors may all p =
+pub monitor_within : (s : Simulation) (c : Choice) (index : ℕ) (monitors : List Monitored) → IsOpenChoice s.parts c
+    → HaveSeen s.parts monitors → index ≡ c.part → index < length monitors
+monitor_within s c index monitors may all p =
     let here = has_seat c s.parts (slice_get s.parts c.part) refl may in
     let within : c.part < length s.parts = slice_get_within s.parts c.part here.0 here.1 in
     let count : length monitors ≡ length s.parts = seen_length s.parts monitors all in
     omega arith
 
-all_seen : (s u : Simulation) (c : Choice) (place : ℕ) (monitors : List Monitored) (m : Monitored)
+all_seen : (s u : Simulation) (c : Choice) (index : ℕ) (monitors : List Monitored) (m : Monitored)
     → IsOpenChoice s.parts c → HaveSeen s.parts monitors → u ≡ stepped_by s s.order c (slice_get s.parts c.part)
-    → place ≡ c.part
-    → HasSeenAt (slice_get u.parts place) m → HaveSeen u.parts (slice_set monitors place m)
-all_seen s u c place monitors m may all e p one =
+    → index ≡ c.part
+    → HasSeenAt (slice_get u.parts index) m → HaveSeen u.parts (slice_set monitors index m)
+all_seen s u c index monitors m may all e p one =
     let here = has_seat c s.parts (slice_get s.parts c.part) refl may in
     let new : RunningPart = part_after c.step here.0 in
-    let left = stepped_at s u c place here.0 here.1 e p in
-    subst (λ (xs : List RunningPart). HaveSeen xs (slice_set monitors place m)) (sym left.0)
-    (seen_set s.parts monitors place new m all (subst (λ (o : Option RunningPart). HasSeenAt o m) left.1 one))
+    let left = stepped_at s u c index here.0 here.1 e p in
+    subst (λ (xs : List RunningPart). HaveSeen xs (slice_set monitors index m)) (sym left.0)
+    (seen_set s.parts monitors index new m all (subst (λ (o : Option RunningPart). HasSeenAt o m) left.1 one))
 
-pub all_seen_on : {T : Type 0} (r : Result T NoMemory) (s u : Simulation) (c : Choice) (place : ℕ)
+pub all_seen_on : {T : Type 0} (r : Result T NoMemory) (s u : Simulation) (c : Choice) (index : ℕ)
     (monitors : List Monitored) (m : Monitored) → IsOpenChoice s.parts c → HaveSeen s.parts monitors
-    → u ≡ stepped_by s s.order c (slice_get s.parts c.part) → place ≡ c.part
-    → OnOk r (HasSeenAt (slice_get u.parts place) m) → OnOk r (HaveSeen u.parts (slice_set monitors place m))
-all_seen_on (Err x) s u c place monitors m may all e p one = one
-all_seen_on (Ok x) s u c place monitors m may all e p one = all_seen s u c place monitors m may all e p one
+    → u ≡ stepped_by s s.order c (slice_get s.parts c.part) → index ≡ c.part
+    → OnOk r (HasSeenAt (slice_get u.parts index) m) → OnOk r (HaveSeen u.parts (slice_set monitors index m))
+all_seen_on (Err x) s u c index monitors m may all e p one = one
+all_seen_on (Ok x) s u c index monitors m may all e p one = all_seen s u c index monitors m may all e p one
 
--- a list that was written through a slice of all of it
+-- a list that was written through a slice of the whole list
 pub written : (n : ℕ) (new old : List Monitored) → n ≡ length new → take n (new ++ drop (length new) old) ≡ new
 written n new old e =
     ap (λ (k : ℕ). take k (new ++ drop (length new) old)) e ∙ front_taken new (drop (length new) old)
 
--- What is known while the break is sought.
+-- What is known while the search for the break continues.
 
--- so many steps were taken, no part has broken a clause, and each part's monitor has seen its journal
+-- n steps were taken, no part has broken a clause, and each part's monitor has seen its journal
 pub record HasKept (scenario : Scenario) (n : ℕ) (s : Simulation) (monitors : List Monitored) : Type 0 where
   pub run : HasRun scenario n s [] []
   pub seen : HaveSeen s.parts monitors
@@ -262,7 +262,7 @@ pub keeps_to_end : (scenario : Scenario) (n : ℕ) (s : Simulation) (monitors : 
     → HasKept scenario n s monitors → 2 ^ 26 ≤ n → ⊥
 keeps_to_end scenario n s monitors v h l = has_to_end scenario n s [] [] v h.run l
 
--- the monitors, as the choice that was picked leaves the parts
+-- the monitors after the picked choice
 pub seen_still : (s t : Simulation) (monitors : List Monitored) → t.parts ≡ s.parts → HaveSeen s.parts monitors
     → HaveSeen t.parts monitors
 seen_still s t monitors same all = subst (λ (xs : List RunningPart). HaveSeen xs monitors) (sym same) all
@@ -289,16 +289,16 @@ keeps_on scenario n s t u c monitors new found h pick same e all is test =
 
 -- the whole run breaks no clause
 pub none_breaks : (scenario : Scenario) (n : ℕ) (s t : Simulation) (monitors : List Monitored) (o : Option Choice)
-    → HasKept scenario n s monitors → IsPick s o t → ((c : Choice) → o ≡ Some c → ⊥) → HasBreakBehind scenario None
+    → HasKept scenario n s monitors → IsPick s o t → ((c : Choice) → o ≡ Some c → ⊥) → HasBreakAfter scenario None
 none_breaks scenario n s t monitors (Some c) h pick others = absurd (others c refl)
 none_breaks scenario n s t monitors None h pick others =
     (s, record { steps = n; reached = h.run.reached; ended = pick.0 }, h.kept)
 
--- the choice that was picked is the first that breaks a clause
+-- the picked choice is the first that breaks a clause
 pub breaks_here : (scenario : Scenario) (n : ℕ) (s t u : Simulation) (c : Choice) (monitors : List Monitored)
     (found : Bool) → HasKept scenario n s monitors → IsPick s (Some c) t → t.parts ≡ s.parts
     → u ≡ stepped_by t t.order c (slice_get t.parts c.part)
-    → found ≡ has_broken_at (slice_get u.parts c.part) → found ≡ true → BreaksBehind scenario n
+    → found ≡ has_broken_at (slice_get u.parts c.part) → found ≡ true → BreaksAfter scenario n
 breaks_here scenario n s t u c monitors found h pick same took is test =
     let here = has_seat c t.parts (slice_get t.parts c.part) refl pick.1 in
     let seat : RunningPart = here.0 in
@@ -340,33 +340,33 @@ pub runs_begun : (scenario : Scenario) (s : Simulation) → s ≡ begins scenari
 unfolding runs
 runs_begun scenario s e = e
 
--- a choice is picked behind the steps that come before the break
+-- a choice is picked after the steps before the break
 pub breaks_picked : (scenario : Scenario) (n : ℕ) (s t : Simulation) (o : Option Choice) → s ≡ runs n (begins scenario)
-    → BreaksBehind scenario n → IsPick s o t → ((c : Choice) → o ≡ Some c → ⊥) → ⊥
+    → BreaksAfter scenario n → IsPick s o t → ((c : Choice) → o ≡ Some c → ⊥) → ⊥
 breaks_picked scenario n s t (Some c) e b pick others = others c refl
 breaks_picked scenario n s t None e b pick others =
     none b.choice
-    (sym (ap (λ (xs : List Choice). slice_get xs (picked s.order (map actor_of xs)).place) pick.0)
+    (sym (ap (λ (xs : List Choice). slice_get xs (picked s.order (map actor_of xs)).index) pick.0)
     ∙ ap picked_choice e ∙ b.first.picks)
   where
     none : (c : Choice) → None ≡ Some c → ⊥
     none c h = cc
 
--- its part is there
-pub part_within : (c : Choice) (parts : List RunningPart) (place : ℕ) → IsOpenChoice parts c → place ≡ c.part
-    → place < length parts
-part_within c parts place may p =
+-- its part exists
+pub part_within : (c : Choice) (parts : List RunningPart) (index : ℕ) → IsOpenChoice parts c → index ≡ c.part
+    → index < length parts
+part_within c parts index may p =
     let here = has_seat c parts (slice_get parts c.part) refl may in
     let within : c.part < length parts = slice_get_within parts c.part here.0 here.1 in omega arith
 
--- what is found is the first break
-pub breaks_found : (scenario : Scenario) (n : ℕ) (s t : Simulation) (c : Choice) (place : ℕ) (m : Monitored)
-    (burst : FoundBurst) (found : WrongBurst) → s ≡ runs n (begins scenario) → BreaksBehind scenario n
-    → IsPick s (Some c) t → t.parts ≡ s.parts → place ≡ c.part → HasSeenAt (slice_get t.parts place) m
+-- the result is the first break
+pub breaks_found : (scenario : Scenario) (n : ℕ) (s t : Simulation) (c : Choice) (index : ℕ) (m : Monitored)
+    (burst : FoundBurst) (found : WrongBurst) → s ≡ runs n (begins scenario) → BreaksAfter scenario n
+    → IsPick s (Some c) t → t.parts ≡ s.parts → index ≡ c.part → HasSeenAt (slice_get t.parts index) m
     → IsFoundIn (slice_get t.parts c.part) c.step burst
-    → found.part ≡ place → found.domain ≡ burst.domain → found.event ≡ burst.event → found.monitor ≡ m
+    → found.part ≡ index → found.domain ≡ burst.domain → found.event ≡ burst.event → found.monitor ≡ m
     → IsWrongBurst scenario found
-breaks_found scenario n s t c place m burst found e b pick same p seen shown part domain made monitor = record {
+breaks_found scenario n s t c index m burst found e b pick same p seen shown part domain made monitor = record {
   steps = n;
   choice = b.choice;
   seat = b.seat;

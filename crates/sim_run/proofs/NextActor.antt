@@ -1,4 +1,4 @@
--- The actor that a round robin takes next, found without a list of all that have a step.
+-- The actor that a round robin takes next is found without a list of all that have a step.
 use Rattle.std.proofs.Common.{◌≡◌, inl, inr, ℕ, ◌+◌, ◌*◌, ◌<◌, ◌≤◌, nat_le, Bool, true, false, Option, Some, None, List, [], ◌∷◌, ◌++◌, drop, get_or, length, slice_get, slice_index, refl, sym, ap, ◌∙◌, arith, IfOk, Result, Ok, Err}
 use Rattle.std.specs.Option.{option_or}
 use Rattle.std.specs.List.{position_or_len}
@@ -7,7 +7,7 @@ use Rattle.std.proofs.lemmas.Bool.{cases_lt, lt-ltb, le-ltb}
 use Rattle.std.proofs.lemmas.List.Folds.{find-append, find_at}
 use Rattle.std.proofs.lemmas.Option.{get_or_from_slice_get, slice_get-get_or, slice_get_read, slice_get_within}
 use Rattle.run_defs.specs.Schedules.{Order, picked, round}
-use Rattle.schedule.specs.Standings.{place_from}
+use Rattle.schedule.specs.Standings.{position_from}
 use Rattle.run_defs.specs.Simulation.{Choice, RunningPart, ThreadState}
 use Rattle.nook_data.specs.declared.memory.NoMemory.{NoMemory}
 use Rattle.sim_run.proofs.AbleThreads.{ready_named}
@@ -15,9 +15,9 @@ use Rattle.sim_run.proofs.Advancing.{none_picked, pick_is}
 use Rattle.sim_run.proofs.Choosing.{drop_at}
 use Rattle.sim_run.specs.Able.{AreAble, able_actors}
 use Rattle.sim_run.specs.Actors.{actors_of_seat, actors_of_seats, choice_at, first_from, named_if, next_from}
-use Rattle.sim_run.specs.Advanced.{IsPick, standing}
+use Rattle.sim_run.specs.Advanced.{IsPick, state_at}
 
--- Flags that are gone over.
+-- Looking through flags.
 
 pub named_found : (flag : Bool) (least i : ℕ) → flag ≡ true → least ≤ i → first_from least (named_if flag i) ≡ Some i
 named_found flag least i on low =
@@ -57,7 +57,7 @@ pub flags_over : (least : ℕ) (able : List Bool) (i : ℕ) (whole : Option ℕ)
 unfolding able_actors
 flags_over least able i whole l h = ap (λ xs. first_from least (able_actors i xs)) (sym (drop_of_length-le able l)) ∙ h
 
--- The threads, and then the parts.
+-- The threads, then the parts.
 
 pub found_thread : (least a : ℕ) (xs ys : List ℕ) → Some a ≡ first_from least xs → Some a ≡ first_from least (xs ++ ys)
 found_thread least a xs ys found =
@@ -67,7 +67,7 @@ pub none_of_threads : (least : ℕ) (xs ys : List ℕ) (o : Option ℕ) → None
 none_of_threads least xs ys o none e =
     e ∙ ap (λ o. option_or o (first_from least ys)) none ∙ sym (find-append (nat_le least) xs ys)
 
--- Parts that are gone over.
+-- Looking through parts.
 
 one_seat : (least first : ℕ) (seats : List RunningPart) (i : ℕ) (seat : RunningPart) (o : Option ℕ) → i < length seats → seat ≡ get_or seats i seat
     → first_from least (actors_of_seat (first + 2 * i) seat) ≡ o
@@ -107,21 +107,21 @@ seats_over least first seats i whole l h =
 -- The next actor is the one that the schedule picks.
 
 found_at : (least : ℕ) (actors : List ℕ) (a : ℕ) → first_from least actors ≡ Some a
-    → (0 < length actors) × (slice_index actors (place_from least actors) ≡ a)
+    → (0 < length actors) × (slice_index actors (position_from least actors) ≡ a)
 found_at least actors a e =
     let test = nat_le least in
-    let place = position_or_len test actors in
-    let at : slice_get actors place ≡ Some a = sym (find_at test actors) ∙ e in
-    let within : place < length actors = slice_get_within actors place a at in
-    (omega arith, rw (lt-ltb place (length actors) within) (get_or_from_slice_get actors place a 0 at))
+    let index = position_or_len test actors in
+    let at : slice_get actors index ≡ Some a = sym (find_at test actors) ∙ e in
+    let within : index < length actors = slice_get_within actors index a at in
+    (omega arith, rw (lt-ltb index (length actors) within) (get_or_from_slice_get actors index a 0 at))
 
-none_from : (least : ℕ) (actors : List ℕ) → first_from least actors ≡ None → place_from least actors ≡ 0
+none_from : (least : ℕ) (actors : List ℕ) → first_from least actors ≡ None → position_from least actors ≡ 0
 none_from least actors e =
     let test = nat_le least in
-    let place = position_or_len test actors in
-    elim (cases_lt place (length actors)) [
-      | inl within ↦ absurd (apart (sym (sym (find_at test actors) ∙ e) ∙ slice_get-get_or actors place 0 within))
-      | inr past ↦ rw (le-ltb place (length actors) past) refl
+    let index = position_or_len test actors in
+    elim (cases_lt index (length actors)) [
+      | inl within ↦ absurd (apart (sym (sym (find_at test actors) ∙ e) ∙ slice_get-get_or actors index 0 within))
+      | inr past ↦ rw (le-ltb index (length actors) past) refl
     ]
   where
     apart : {n : ℕ} → None ≡ Some n → ⊥
@@ -139,11 +139,11 @@ first_of_all (x ∷ xs) a e = (omega arith, inner (sym (all_at_least x xs) ∙ e
     inner h = cc
 
 next_is : (cursor : ℕ) (actors : List ℕ) (a : ℕ) → next_from cursor actors ≡ Some a
-    → (0 < length actors) × (slice_index actors (place_from cursor actors) ≡ a)
+    → (0 < length actors) × (slice_index actors (position_from cursor actors) ≡ a)
 next_is cursor actors a h = by_first (first_from cursor actors) refl h
   where
     by_first : (o : Option ℕ) → first_from cursor actors ≡ o → option_or o (first_from 0 actors) ≡ Some a
-        → (0 < length actors) × (slice_index actors (place_from cursor actors) ≡ a)
+        → (0 < length actors) × (slice_index actors (position_from cursor actors) ≡ a)
     by_first (Some b) e h = found_at cursor actors a (e ∙ h)
     by_first None e h =
         let first = first_of_all actors a h in
@@ -164,21 +164,21 @@ none_next cursor actors h = by_first (first_from cursor actors) h
     by_first None h = no_first actors h
 
 pub no_choice : (order : Order) (cursor : ℕ) (parts : List RunningPart) (threads : List ThreadState) (able : List Bool) → AreAble parts threads able
-    → next_from cursor (able_actors 0 able ++ actors_of_seats (length able) parts) ≡ None → IsPick (standing order parts threads) None (standing order parts threads)
+    → next_from cursor (able_actors 0 able ++ actors_of_seats (length able) parts) ≡ None → IsPick (state_at order parts threads) None (state_at order parts threads)
 no_choice order cursor parts threads able a h =
     let actors = able_actors 0 able ++ actors_of_seats (length able) parts in
-    none_picked (standing order parts threads) actors (ready_named parts threads able actors a refl) (none_next cursor actors h)
+    none_picked (state_at order parts threads) actors (ready_named parts threads able actors a refl) (none_next cursor actors h)
 
 pub next_choice : (r : Result (Option Choice) NoMemory) (order order' : Order) (cursor a : ℕ) (parts : List RunningPart) (threads : List ThreadState) (able : List Bool)
     → order ≡ round cursor → order' ≡ round (a + 1) → AreAble parts threads able
     → next_from cursor (able_actors 0 able ++ actors_of_seats (length able) parts) ≡ Some a
-    → IfOk r (λ o. o ≡ choice_at parts threads a) → IfOk r (λ o. IsPick (standing order parts threads) o (standing order' parts threads))
+    → IfOk r (λ o. o ≡ choice_at parts threads a) → IfOk r (λ o. IsPick (state_at order parts threads) o (state_at order' parts threads))
 unfolding picked
 next_choice (Err x) order order' cursor a parts threads able e e' is n h = h
 next_choice (Ok o) order order' cursor a parts threads able e e' is n h =
     let actors = able_actors 0 able ++ actors_of_seats (length able) parts in
     let next = next_is cursor actors a n in
-    pick_is order order' parts threads actors (place_from cursor actors) o (ready_named parts threads able actors is refl) next.0
-    (ap (λ q. (picked q actors).place) (sym e))
+    pick_is order order' parts threads actors (position_from cursor actors) o (ready_named parts threads able actors is refl) next.0
+    (ap (λ q. (picked q actors).index) (sym e))
     (e' ∙ ap (λ n. round (n + 1)) (sym next.1) ∙ ap (λ q. (picked q actors).order) (sym e))
     (h ∙ ap (choice_at parts threads) (sym next.1))

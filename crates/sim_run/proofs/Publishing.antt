@@ -11,14 +11,14 @@ use Rattle.run_defs.specs.Simulation.{Choice, RunningPart, Simulation, begins, c
 use Rattle.run_defs.specs.Simulation.{opening_part, runs, part_after, taken}
 use Rattle.nook_io.specs.Listening.{heard_events}
 use Rattle.machine_defs.proofs.BurstKeeps.{split}
-use Rattle.part_laws.proofs.Places.{get_set_other}
+use Rattle.part_laws.proofs.Indices.{get_set_other}
 use Rattle.sim_run.proofs.Choosing.{choices_open}
 use Rattle.sim_run.proofs.Reaching.{IsPicked, picked_one, runs_front}
-use Rattle.run_ends.specs.Journals.{with_part}
+use Rattle.run_results.specs.Journals.{with_part}
 use Rattle.sim_run.specs.Published.{events_of_part, heard_in_journals, made, made_by, made_of, moved, published}
 use Rattle.sim_run.specs.Reached.{IsOpenChoice}
 
--- The events of a run by its last step.
+-- The events of a run, split at its last step.
 
 pub published_back : (n : ℕ) (s : Simulation) → published (suc n) s ≡ published n s ++ made (runs n s) (choices_of (runs n s))
 unfolding published runs
@@ -29,7 +29,7 @@ published_back (suc n) s =
     (made (runs n (moved s (choices_of s))) (choices_of (runs n (moved s (choices_of s))))))
     ∙ ap (λ (x : Simulation). (made s (choices_of s) ++ published n (moved s (choices_of s))) ++ made x (choices_of x)) (sym (runs_front n s))
 
--- what one step makes
+-- the event of one step
 
 made_picked : (s : Simulation) (choices : List Choice) (c : Choice) (seat : RunningPart) → IsPicked s choices c seat
     → made s choices ≡ (c.part, event_of seat.run.state c.step) ∷ []

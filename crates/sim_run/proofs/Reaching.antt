@@ -12,40 +12,40 @@ use Rattle.run_defs.specs.Simulation.{journals_of, opening_part, runs, part_afte
 use Rattle.run_defs.proofs.RunChanges.{taken_by}
 use Rattle.part_defs.specs.Steps.{enabled, opening}
 use Rattle.nook_data.specs.Valid.{IsValidPart, IsValidScenario}
-use Rattle.part_laws.proofs.Places.{length_map}
+use Rattle.part_laws.proofs.Indices.{length_map}
 use Rattle.part_laws.proofs.RunSmall.{run_small}
 use Rattle.part_laws.proofs.RunsDetermined.{run_more, state_more}
 use Rattle.part_laws.proofs.ValidFits.{valid_fits}
 use Rattle.sim_run.proofs.Choosing.{choices_open}
 use Rattle.sim_run.proofs.Picking.{picked_within}
 use Rattle.sim_run.specs.Published.{moved}
-use Rattle.run_ends.specs.Journals.{AreRuns}
+use Rattle.run_results.specs.Journals.{AreRuns}
 use Rattle.sim_run.specs.Reached.{AreSeatsOf, IsSeatOf, MayTake, IsOpenChoice}
 
--- What a simulation does in one step.
+-- The effect of one step on a simulation.
 
-pub at_place : {X : Type 0} (P : X → Type 0) (xs : List X) (i : ℕ) (x : X) → AllByRecursion P xs → slice_get xs i ≡ Some x → P x
-at_place P [] i x all h = cc
-at_place P (y ∷ xs) zero x all h = subst P (inner h) all.0
+pub at_position : {X : Type 0} (P : X → Type 0) (xs : List X) (i : ℕ) (x : X) → AllByRecursion P xs → slice_get xs i ≡ Some x → P x
+at_position P [] i x all h = cc
+at_position P (y ∷ xs) zero x all h = subst P (inner h) all.0
   where
     inner : {X : Type 0} {a b : X} → Some a ≡ Some b → a ≡ b
     inner h = cc
-at_place P (y ∷ xs) (suc i) x all h = at_place P xs i x all.1 h
+at_position P (y ∷ xs) (suc i) x all h = at_position P xs i x all.1 h
 
 some_at : {X : Type 0} (xs : List X) (i : ℕ) → i < length xs → (x : X) × (slice_get xs i ≡ Some x)
 some_at [] i l = absurd (omega arith)
 some_at (x ∷ xs) zero l = (x, refl)
 some_at (x ∷ xs) (suc i) l = some_at xs i (omega arith)
 
--- the choice that is picked, and its part
+-- the picked choice and its part
 pub record IsPicked (s : Simulation) (choices : List Choice) (c : Choice) (seat : RunningPart) : Type 0 where
-  pub found : slice_get choices (picked s.order (map actor_of choices)).place ≡ Some c
+  pub found : slice_get choices (picked s.order (map actor_of choices)).index ≡ Some c
   pub at_part : slice_get s.parts c.part ≡ Some seat
   pub may : enabled seat.run.state c.step ≡ true
   pub step : taken s choices ≡ stepped_by s (picked s.order (map actor_of choices)).order c (Some seat)
 
 picked_part : (s : Simulation) (choices : List Choice) (c : Choice) (o : Option RunningPart)
-    → slice_get choices (picked s.order (map actor_of choices)).place ≡ Some c → slice_get s.parts c.part ≡ o → MayTake o c.step
+    → slice_get choices (picked s.order (map actor_of choices)).index ≡ Some c → slice_get s.parts c.part ≡ o → MayTake o c.step
     → (seat : RunningPart) × IsPicked s choices c seat
 unfolding taken
 picked_part s choices c None h e may = absurd may
@@ -64,14 +64,14 @@ pub picked_one : (s : Simulation) (choices : List Choice) → AllByRecursion (Is
     → (c : Choice) × ((seat : RunningPart) × IsPicked s choices c seat)
 picked_one s choices all l =
     let n : length (map actor_of choices) ≡ length choices = length_map actor_of choices in
-    let w : (picked s.order (map actor_of choices)).place < length (map actor_of choices) = picked_within s.order (map actor_of choices) (omega arith) in
-    let one = some_at choices (picked s.order (map actor_of choices)).place (omega arith) in (
+    let w : (picked s.order (map actor_of choices)).index < length (map actor_of choices) = picked_within s.order (map actor_of choices) (omega arith) in
+    let one = some_at choices (picked s.order (map actor_of choices)).index (omega arith) in (
       one.0,
       picked_part s choices one.0 (slice_get s.parts one.0.part) one.1 refl
-          (at_place (IsOpenChoice s.parts) choices (picked s.order (map actor_of choices)).place one.0 all one.1),
+          (at_position (IsOpenChoice s.parts) choices (picked s.order (map actor_of choices)).index one.0 all one.1),
     )
 
--- Each part stays what its journal leads to.
+-- Each part stays in the state that its journal leads to.
 
 seat_more : (spec : PartSpec) (seat : RunningPart) (s : Step) → IsSeatOf spec seat → enabled seat.run.state s ≡ true → IsSeatOf spec (part_after s seat)
 seat_more spec seat s is may =
@@ -133,7 +133,7 @@ one_event_more s l =
     let one = picked_one s (choices_of s) (choices_open s) l in
     count_picked s (choices_of s) one.0 one.1.0 one.1.1
 
--- Runs by their last step.
+-- Runs, split at their last step.
 
 pub runs_still : (n : ℕ) (s : Simulation) → choices_of s ≡ [] → runs n s ≡ s
 unfolding runs
@@ -155,7 +155,7 @@ runs_back (suc n) s =
     runs_front (suc n) s ∙ runs_back n (moved s (choices_of s))
     ∙ ap (λ (x : Simulation). moved x (choices_of x)) (sym (runs_front n s))
 
--- What every run reaches.
+-- Properties of every reached simulation.
 
 moved_seats : (specs : List PartSpec) (s : Simulation) (choices : List Choice) → AllByRecursion (IsOpenChoice s.parts) choices
     → AreSeatsOf specs s.parts → AreSeatsOf specs (moved s choices).parts

@@ -14,9 +14,9 @@ use Rattle.run_defs.specs.Simulation.{journals_of, opening_part, runs, part_afte
 use Rattle.part_defs.specs.State.{DomainState, PartState}
 use Rattle.part_defs.specs.Steps.{burst_stepped, stepped}
 use Rattle.nook_data.specs.Valid.{IsValidScenario}
-use Rattle.part_laws.proofs.Places.{get_map, get_mid, get_set_same}
+use Rattle.part_laws.proofs.Indices.{get_map, get_mid, get_set_same}
 use Rattle.part_laws.proofs.RunsDetermined.{step_named}
-use Rattle.request_taps.specs.Bus.{told_all}
+use Rattle.request_taps.specs.Bus.{after_hearing_all}
 use Rattle.sim_run.proofs.Choosing.{choices_open}
 use Rattle.sim_run.proofs.Ending.{HasRun, has_begun, has_run_on, has_to_end, runs_add, scheduled_ends, stays}
 use Rattle.sim_run.proofs.Reaching.{IsPicked, picked_one, runs_front, seats_of_runs}
@@ -29,7 +29,7 @@ use Rattle.sim_run.specs.declared.whole_run.FoundBurst.{FoundBurst}
 
 -- A step that is taken as the last one.
 
--- the domain before it, and the newest event behind it
+-- the domain before it, and the newest event after it
 pub last_shown : (seat new : RunningPart) (s : Step) (d : DomainState) (e x : Event) → d ≡ seat.run.state.domain
     → new ≡ part_after s seat → slice_get new.run.journal (length new.run.journal - 1) ≡ Some e → x ≡ e
     → (d, x) ≡ shown_step seat.run.state s
@@ -40,9 +40,9 @@ last_shown seat new s d e x domain left newest same =
     ∙ ap {B = DomainState × Event} (λ x. (seat.run.state.domain, x))
     (same ∙ last_of seat.run.journal (event_of seat.run.state s) e last)
 
--- Which step makes the burst of a number.
+-- Which step makes a burst with a given number.
 
--- a burst has the number behind that of the part's bursts so far
+-- a burst has the number after that of the part's bursts so far
 pub burst_numbered : (p : PartState) (context number bursts : ℕ) → bursts ≡ p.bursts
     → (bursts + 1 == number) ≡ is_burst number (event_of p (step.Burst context))
 unfolding stepped burst_stepped
@@ -62,7 +62,7 @@ pub none_numbered : (p : PartState) (s : Step) (number : ℕ) → ((context : �
     → false ≡ is_burst number (event_of p s)
 none_numbered p s number others = not_named (event_of p s) s number (step_named p s) others
 
--- Where an event stands that is the first of its kind.
+-- The index of the first event of its kind.
 
 not_either : (a b : Bool) → (a || b) ≡ false → (a ≡ false) × (b ≡ false)
 not_either true b h = cc
@@ -109,9 +109,9 @@ none_more p (x ∷ xs) e h is =
     let both = not_either (p x) (list_any p xs) h in
     ap (λ b. b || list_any p (xs ++ e ∷ [])) both.0 ∙ none_more p xs e both.1 is
 
--- What one step does to one part's journal.
+-- The effect of one step on one part's journal.
 
--- it stays, or one event is added
+-- it stays the same, or gains one event
 abbrev pub Follows : Option (List Event) → Option (List Event) → Type 0
 Follows old new =
     (new ≡ old) ⊎ ((journal : List Event) × ((e : Event) × ((old ≡ Some journal) × (new ≡ Some (journal ++ e ∷ [])))))
@@ -119,48 +119,48 @@ Follows old new =
 some_journal : (x seat : RunningPart) → Some x ≡ Some seat → x.run.journal ≡ seat.run.journal
 some_journal x seat h = cc
 
-set_follows : (parts : List RunningPart) (i place : ℕ) (seat new : RunningPart) (e : Event) → slice_get parts i ≡ Some seat
+set_follows : (parts : List RunningPart) (i index : ℕ) (seat new : RunningPart) (e : Event) → slice_get parts i ≡ Some seat
     → new.run.journal ≡ seat.run.journal ++ e ∷ []
-    → Follows (slice_get (map journal_of parts) place) (slice_get (map journal_of (slice_set parts i new)) place)
-set_follows [] i place seat new e h n = cc
+    → Follows (slice_get (map journal_of parts) index) (slice_get (map journal_of (slice_set parts i new)) index)
+set_follows [] i index seat new e h n = cc
 set_follows (x ∷ parts) zero zero seat new e h n =
     inr (seat.run.journal, (e, (ap {B = Option (List Event)} (λ (j : List Event). Some j) (some_journal x seat h), ap {B = Option (List Event)} (λ (j : List Event). Some j) n)))
-set_follows (x ∷ parts) zero (suc place) seat new e h n = inl refl
+set_follows (x ∷ parts) zero (suc index) seat new e h n = inl refl
 set_follows (x ∷ parts) (suc i) zero seat new e h n = inl refl
-set_follows (x ∷ parts) (suc i) (suc place) seat new e h n = set_follows parts i place seat new e h n
+set_follows (x ∷ parts) (suc i) (suc index) seat new e h n = set_follows parts i index seat new e h n
 
-picked_follows : (s : Simulation) (choices : List Choice) (c : Choice) (seat : RunningPart) (place : ℕ) → IsPicked s choices c seat
-    → Follows (slice_get (journals_of s) place) (slice_get (journals_of (taken s choices)) place)
-picked_follows s choices c seat place p =
-    subst (λ (x : Simulation). Follows (slice_get (journals_of s) place) (slice_get (journals_of x) place)) (sym p.step)
-    (set_follows s.parts c.part place seat (part_after c.step seat) (event_of seat.run.state c.step) p.at_part refl)
+picked_follows : (s : Simulation) (choices : List Choice) (c : Choice) (seat : RunningPart) (index : ℕ) → IsPicked s choices c seat
+    → Follows (slice_get (journals_of s) index) (slice_get (journals_of (taken s choices)) index)
+picked_follows s choices c seat index p =
+    subst (λ (x : Simulation). Follows (slice_get (journals_of s) index) (slice_get (journals_of x) index)) (sym p.step)
+    (set_follows s.parts c.part index seat (part_after c.step seat) (event_of seat.run.state c.step) p.at_part refl)
 
-moved_follows : (s : Simulation) (choices : List Choice) (place : ℕ) → choices_of s ≡ choices
-    → Follows (slice_get (journals_of s) place) (slice_get (journals_of (moved s choices)) place)
-moved_follows s [] place e = inl refl
-moved_follows s (c ∷ choices) place e =
+moved_follows : (s : Simulation) (choices : List Choice) (index : ℕ) → choices_of s ≡ choices
+    → Follows (slice_get (journals_of s) index) (slice_get (journals_of (moved s choices)) index)
+moved_follows s [] index e = inl refl
+moved_follows s (c ∷ choices) index e =
     let more : 0 < length (choices_of s) = subst (λ (xs : List Choice). 0 < length xs) (sym e) (omega arith) in
     let one = picked_one s (choices_of s) (choices_open s) more in
-    subst (λ xs. Follows (slice_get (journals_of s) place) (slice_get (journals_of (taken s xs)) place)) e
-    (picked_follows s (choices_of s) one.0 one.1.0 place one.1.1)
+    subst (λ xs. Follows (slice_get (journals_of s) index) (slice_get (journals_of (taken s xs)) index)) e
+    (picked_follows s (choices_of s) one.0 one.1.0 index one.1.1)
 
--- so what stands in a journal stands at its front from then on
-front_stays : (n : ℕ) (s : Simulation) (place : ℕ) (journal : List Event) → slice_get (journals_of s) place ≡ Some journal
-    → (rest : List Event) × (slice_get (journals_of (runs n s)) place ≡ Some (journal ++ rest))
+-- so a journal is a prefix of the later ones
+front_stays : (n : ℕ) (s : Simulation) (index : ℕ) (journal : List Event) → slice_get (journals_of s) index ≡ Some journal
+    → (rest : List Event) × (slice_get (journals_of (runs n s)) index ≡ Some (journal ++ rest))
 unfolding runs
-front_stays zero s place journal h = ([], h ∙ ap {B = Option (List Event)} (λ (j : List Event). Some j) (sym (append-nil journal)))
-front_stays (suc n) s place journal h =
-    subst (λ (x : Simulation). (rest : List Event) × (slice_get (journals_of x) place ≡ Some (journal ++ rest))) (sym (runs_front n s))
-    (by_step (moved_follows s (choices_of s) place refl) (λ (j : List Event) at. front_stays n (moved s (choices_of s)) place j at))
+front_stays zero s index journal h = ([], h ∙ ap {B = Option (List Event)} (λ (j : List Event). Some j) (sym (append-nil journal)))
+front_stays (suc n) s index journal h =
+    subst (λ (x : Simulation). (rest : List Event) × (slice_get (journals_of x) index ≡ Some (journal ++ rest))) (sym (runs_front n s))
+    (by_step (moved_follows s (choices_of s) index refl) (λ (j : List Event) at. front_stays n (moved s (choices_of s)) index j at))
   where
     inner : {a b : List Event} → Some a ≡ Some b → a ≡ b
     inner h = cc
 
     Stays : List Event → Type 0
-    Stays j = (rest : List Event) × (slice_get (journals_of (runs n (moved s (choices_of s)))) place ≡ Some (j ++ rest))
+    Stays j = (rest : List Event) × (slice_get (journals_of (runs n (moved s (choices_of s)))) index ≡ Some (j ++ rest))
 
-    by_step : Follows (slice_get (journals_of s) place) (slice_get (journals_of (moved s (choices_of s))) place)
-        → ((j : List Event) → slice_get (journals_of (moved s (choices_of s))) place ≡ Some j → Stays j) → Stays journal
+    by_step : Follows (slice_get (journals_of s) index) (slice_get (journals_of (moved s (choices_of s))) index)
+        → ((j : List Event) → slice_get (journals_of (moved s (choices_of s))) index ≡ Some j → Stays j) → Stays journal
     by_step (inl same) on = on journal (same ∙ h)
     by_step (inr more) on =
         let is : more.0 ≡ journal = inner (sym more.1.1.0 ∙ h) in
@@ -168,63 +168,63 @@ front_stays (suc n) s place journal h =
         (more.1.1.1 ∙ ap {B = Option (List Event)} (λ (j : List Event). Some (j ++ more.1.0 ∷ [])) is) in
         (more.1.0 ∷ later.0, later.1 ∙ ap {B = Option (List Event)} (λ (j : List Event). Some j) (append_assoc journal (more.1.0 ∷ []) later.0))
 
--- What is known while the burst is sought.
+-- What is known while the search for the burst continues.
 
 -- the burst is not in the journal
 abbrev pub HasNoBurst : ℕ → Option (List Event) → Type 0
 HasNoBurst number None = Unit {0}
 HasNoBurst number (Some journal) = list_any (is_burst number) journal ≡ false
 
-none_at_first : (specs : List PartSpec) (place number : ℕ) → HasNoBurst number (slice_get (map journal_of (map opening_part specs)) place)
-none_at_first [] place number = tt
+none_at_first : (specs : List PartSpec) (index number : ℕ) → HasNoBurst number (slice_get (map journal_of (map opening_part specs)) index)
+none_at_first [] index number = tt
 none_at_first (spec ∷ specs) zero number = refl
-none_at_first (spec ∷ specs) (suc place) number = none_at_first specs place number
+none_at_first (spec ∷ specs) (suc index) number = none_at_first specs index number
 
 -- no part has made an event
-none_begun : (scenario : Scenario) (s : Simulation) (place number : ℕ) → s ≡ begins scenario
-    → HasNoBurst number (slice_get (journals_of s) place)
+none_begun : (scenario : Scenario) (s : Simulation) (index number : ℕ) → s ≡ begins scenario
+    → HasNoBurst number (slice_get (journals_of s) index)
 unfolding begins
-none_begun scenario s place number e =
-    subst (λ (x : Simulation). HasNoBurst number (slice_get (journals_of x) place)) (sym e) (none_at_first scenario.parts place number)
+none_begun scenario s index number e =
+    subst (λ (x : Simulation). HasNoBurst number (slice_get (journals_of x) index)) (sym e) (none_at_first scenario.parts index number)
 
 -- a part takes a step that is not the burst
-none_set : (parts : List RunningPart) (i place number : ℕ) (seat new : RunningPart) (e : Event)
+none_set : (parts : List RunningPart) (i index number : ℕ) (seat new : RunningPart) (e : Event)
     → slice_get parts i ≡ Some seat → new.run.journal ≡ seat.run.journal ++ e ∷ []
-    → (i ≡ place → is_burst number e ≡ false) → HasNoBurst number (slice_get (map journal_of parts) place)
-    → HasNoBurst number (slice_get (map journal_of (slice_set parts i new)) place)
-none_set [] i place number seat new e h n other none = cc
+    → (i ≡ index → is_burst number e ≡ false) → HasNoBurst number (slice_get (map journal_of parts) index)
+    → HasNoBurst number (slice_get (map journal_of (slice_set parts i new)) index)
+none_set [] i index number seat new e h n other none = cc
 none_set (x ∷ parts) zero zero number seat new e h n other none =
     let before : list_any (is_burst number) seat.run.journal ≡ false =
     subst (λ j. list_any (is_burst number) j ≡ false) (some_journal x seat h) none in
     ap (list_any (is_burst number)) n ∙ none_more (is_burst number) seat.run.journal e before (other refl)
-none_set (x ∷ parts) zero (suc place) number seat new e h n other none = none
+none_set (x ∷ parts) zero (suc index) number seat new e h n other none = none
 none_set (x ∷ parts) (suc i) zero number seat new e h n other none = none
-none_set (x ∷ parts) (suc i) (suc place) number seat new e h n other none =
-    none_set parts i place number seat new e h n (λ same. other (ap suc same)) none
+none_set (x ∷ parts) (suc i) (suc index) number seat new e h n other none =
+    none_set parts i index number seat new e h n (λ same. other (ap suc same)) none
 
 -- no tap hears anything
-told_none : (events : List (ℕ × Event)) → told_all events [] ≡ []
-unfolding told_all
-told_none [] = refl
-told_none (e ∷ events) = told_none events
+heard_none : (events : List (ℕ × Event)) → after_hearing_all events [] ≡ []
+unfolding after_hearing_all
+heard_none [] = refl
+heard_none (e ∷ events) = heard_none events
 
 pub hears_none : (s : Simulation) (some : Bool) → HearsStep s (Ok some) [] []
-hears_none s true = sym (told_none (made s (choices_of s)))
+hears_none s true = sym (heard_none (made s (choices_of s)))
 hears_none s false = refl
 
--- so many steps were taken, and the burst was not made
-pub record HasSought (scenario : Scenario) (n : ℕ) (s : Simulation) (place number : ℕ) : Type 0 where
+-- n steps were taken, and the burst was not made
+pub record HasSought (scenario : Scenario) (n : ℕ) (s : Simulation) (index number : ℕ) : Type 0 where
   pub run : HasRun scenario n s [] []
-  pub none : HasNoBurst number (slice_get (journals_of s) place)
+  pub none : HasNoBurst number (slice_get (journals_of s) index)
 
-pub seeks_first : (scenario : Scenario) (s : Simulation) (place number : ℕ) → s ≡ begins scenario → HasSought scenario 0 s place number
-seeks_first scenario s place number e = record { run = has_begun scenario s [] e; none = none_begun scenario s place number e }
+pub seeks_first : (scenario : Scenario) (s : Simulation) (index number : ℕ) → s ≡ begins scenario → HasSought scenario 0 s index number
+seeks_first scenario s index number e = record { run = has_begun scenario s [] e; none = none_begun scenario s index number e }
 
-pub seeks_to_end : (scenario : Scenario) (n : ℕ) (s : Simulation) (place number : ℕ) → IsValidScenario scenario → HasSought scenario n s place number
+pub seeks_to_end : (scenario : Scenario) (n : ℕ) (s : Simulation) (index number : ℕ) → IsValidScenario scenario → HasSought scenario n s index number
     → 2 ^ 26 ≤ n → ⊥
-seeks_to_end scenario n s place number v h l = has_to_end scenario n s [] [] v h.run l
+seeks_to_end scenario n s index number v h l = has_to_end scenario n s [] [] v h.run l
 
--- the choice's part is there
+-- the choice's part exists
 pub has_seat : (c : Choice) (parts : List RunningPart) (o : Option RunningPart) → slice_get parts c.part ≡ o
     → IsOpenChoice parts c → (seat : RunningPart) × (slice_get parts c.part ≡ Some seat)
 has_seat c parts None e h = absurd (none e)
@@ -233,34 +233,34 @@ has_seat c parts None e h = absurd (none e)
     none e = rw e at h
 has_seat c parts (Some seat) e h = (seat, e)
 
--- what is picked is taken: the run has gone on by one step
+-- the picked choice is taken: the run has made one step
 pub pick_taken : (s t u : Simulation) (c : Choice) → IsPick s (Some c) t
     → u ≡ stepped_by t t.order c (slice_get t.parts c.part) → IsAdvanced s true u
 pick_taken s t u c pick e = (pick.0, e ∙ pick.2)
 
-none_stepped : (s t : Simulation) (place number : ℕ) (c : Choice) (seat : RunningPart) → t.parts ≡ s.parts
-    → slice_get t.parts c.part ≡ Some seat → is_burst_at place number c (Some seat) ≡ false
-    → HasNoBurst number (slice_get (journals_of s) place)
-    → HasNoBurst number (slice_get (journals_of (stepped_by t t.order c (Some seat))) place)
-none_stepped s t place number c seat same at other none =
-    none_set t.parts c.part place number seat (part_after c.step seat) (event_of seat.run.state c.step) at refl
-    (λ e. apart (c.part == place) (is_burst number (event_of seat.run.state c.step)) (eq-eqb c.part place e) other)
-    (subst (λ parts. HasNoBurst number (slice_get (map journal_of parts) place)) (sym same) none)
+none_stepped : (s t : Simulation) (index number : ℕ) (c : Choice) (seat : RunningPart) → t.parts ≡ s.parts
+    → slice_get t.parts c.part ≡ Some seat → is_burst_at index number c (Some seat) ≡ false
+    → HasNoBurst number (slice_get (journals_of s) index)
+    → HasNoBurst number (slice_get (journals_of (stepped_by t t.order c (Some seat))) index)
+none_stepped s t index number c seat same at other none =
+    none_set t.parts c.part index number seat (part_after c.step seat) (event_of seat.run.state c.step) at refl
+    (λ e. apart (c.part == index) (is_burst number (event_of seat.run.state c.step)) (eq-eqb c.part index e) other)
+    (subst (λ parts. HasNoBurst number (slice_get (map journal_of parts) index)) (sym same) none)
   where
     apart : (a b : Bool) → a ≡ true → (a && b) ≡ false → b ≡ false
     apart a b e h = rw e at h
 
-pub seeks_on : (scenario : Scenario) (n : ℕ) (s t u : Simulation) (place number : ℕ) (c : Choice) (found : Bool)
-    → HasSought scenario n s place number → IsPick s (Some c) t → t.parts ≡ s.parts
-    → found ≡ is_burst_at place number c (slice_get t.parts c.part) → found ≡ false
-    → u ≡ stepped_by t t.order c (slice_get t.parts c.part) → HasSought scenario (n + 1) u place number
-seeks_on scenario n s t u place number c found h pick same is other e =
+pub seeks_on : (scenario : Scenario) (n : ℕ) (s t u : Simulation) (index number : ℕ) (c : Choice) (found : Bool)
+    → HasSought scenario n s index number → IsPick s (Some c) t → t.parts ≡ s.parts
+    → found ≡ is_burst_at index number c (slice_get t.parts c.part) → found ≡ false
+    → u ≡ stepped_by t t.order c (slice_get t.parts c.part) → HasSought scenario (n + 1) u index number
+seeks_on scenario n s t u index number c found h pick same is other e =
     let here = has_seat c t.parts (slice_get t.parts c.part) refl pick.1 in
     let at : u ≡ stepped_by t t.order c (Some here.0) = e ∙ ap (stepped_by t t.order c) here.1 in record {
       run = has_run_on scenario n s u true [] [] [] h.run (pick_taken s t u c pick e) (hears_none s true) refl;
-      none = subst (λ (x : Simulation). HasNoBurst number (slice_get (journals_of x) place)) (sym at)
-          (none_stepped s t place number c here.0 same here.1
-          (sym (ap (is_burst_at place number c) here.1) ∙ sym is ∙ other) h.none);
+      none = subst (λ (x : Simulation). HasNoBurst number (slice_get (journals_of x) index)) (sym at)
+          (none_stepped s t index number c here.0 same here.1
+          (sym (ap (is_burst_at index number c) here.1) ∙ sym is ∙ other) h.none);
     }
 
 -- The answers.
@@ -272,17 +272,17 @@ none_by number (Some spec) None h = refl
 none_by number (Some spec) (Some journal) h = ap (found_at spec journal) (no_position (is_burst number) journal h)
 
 -- the whole run has no such burst
-pub none_found : (scenario : Scenario) (n : ℕ) (s t : Simulation) (place number : ℕ) (o : Option Choice)
-    → HasSought scenario n s place number → IsPick s o t → ((c : Choice) → o ≡ Some c → ⊥)
-    → LeadsToBurst scenario place number None
-none_found scenario n s t place number (Some c) h pick others = absurd (others c refl)
-none_found scenario n s t place number None h pick others = record {
+pub none_found : (scenario : Scenario) (n : ℕ) (s t : Simulation) (index number : ℕ) (o : Option Choice)
+    → HasSought scenario n s index number → IsPick s o t → ((c : Choice) → o ≡ Some c → ⊥)
+    → LeadsToBurst scenario index number None
+none_found scenario n s t index number (Some c) h pick others = absurd (others c refl)
+none_found scenario n s t index number None h pick others = record {
   simulation = s;
   scheduled = record { steps = n; reached = h.run.reached; ended = pick.0 };
-  same = sym (none_by number (slice_get scenario.parts place) (slice_get (journals_of s) place) h.none);
+  same = sym (none_by number (slice_get scenario.parts index) (slice_get (journals_of s) index) h.none);
 }
 
--- a part is what its journal leads to
+-- a part is in the state that its journal leads to
 seat_spec : (specs : List PartSpec) (seats : List RunningPart) (k : ℕ) (seat : RunningPart) → AreSeatsOf specs seats
     → slice_get seats k ≡ Some seat → (spec : PartSpec) × ((slice_get specs k ≡ Some spec) × IsSeatOf spec seat)
 seat_spec [] [] k seat are at = cc
@@ -294,14 +294,14 @@ seat_spec (spec ∷ specs) (x ∷ seats) zero seat are at = (spec, (refl, subst 
     inner h = cc
 seat_spec (spec ∷ specs) (x ∷ seats) (suc k) seat are at = seat_spec specs seats k seat are.1 at
 
-found_behind : (spec : PartSpec) (front rest : List Event) (e : Event)
+found_following : (spec : PartSpec) (front rest : List Event) (e : Event)
     → found_at spec (front ++ e ∷ rest) (Some (length front)) ≡ Some ((state_of spec front).domain, e)
-found_behind spec front rest e =
+found_following spec front rest e =
     ap (option_map (λ x. ((state_of spec (take (length front) (front ++ e ∷ rest))).domain, x))) (get_mid front rest e)
     ∙ ap {B = Option (DomainState × Event)} (λ events. Some ((state_of spec events).domain, e))
     (front_taken front (e ∷ rest))
 
--- the burst is the event behind this front of the part's journal
+-- the burst is the event after this prefix of the part's journal
 found_by : (number : ℕ) (spec : PartSpec) (seat : RunningPart) (rest : List Event) (e : Event) → IsSeatOf spec seat
     → list_any (is_burst number) seat.run.journal ≡ false → is_burst number e ≡ true
     → burst_found number (Some spec) (Some ((seat.run.journal ++ e ∷ []) ++ rest)) ≡ Some (seat.run.state.domain, e)
@@ -309,29 +309,29 @@ found_by number spec seat rest e is none burst =
     let front = seat.run.journal in
     ap (λ (j : List Event). burst_found number (Some spec) (Some j)) (append_assoc front (e ∷ []) rest)
     ∙ ap (found_at spec (front ++ e ∷ rest)) (first_position (is_burst number) front rest e none burst)
-    ∙ found_behind spec front rest e
+    ∙ found_following spec front rest e
     ∙ ap {B = Option (DomainState × Event)} (λ (p : PartState). Some (p.domain, e)) (sym is.state)
 
--- the burst is what the choice that was picked makes
-record IsSought (scenario : Scenario) (n : ℕ) (s : Simulation) (place number : ℕ) (seat : RunningPart) (e : Event)
+-- the picked choice makes the burst
+record IsSought (scenario : Scenario) (n : ℕ) (s : Simulation) (index number : ℕ) (seat : RunningPart) (e : Event)
     : Type 0 where
   pub reached : runs n (begins scenario) ≡ s
   pub parts : List RunningPart
   pub seats : AreSeatsOf scenario.parts parts
-  pub at : slice_get parts place ≡ Some seat
+  pub at : slice_get parts index ≡ Some seat
   pub none : HasNoBurst number (Some seat.run.journal)
   pub burst : is_burst number e ≡ true
-  pub stands : slice_get (journals_of s) place ≡ Some (seat.run.journal ++ e ∷ [])
+  pub represents : slice_get (journals_of s) index ≡ Some (seat.run.journal ++ e ∷ [])
 
-leads_by : (scenario : Scenario) (n : ℕ) (s : Simulation) (place number : ℕ) (seat : RunningPart) (e : Event)
-    (found : FoundBurst) → IsValidScenario scenario → IsSought scenario n s place number seat e
-    → shown_burst found ≡ (seat.run.state.domain, e) → LeadsToBurst scenario place number (Some found)
-leads_by scenario n s place number seat e found v sought shown = record {
+leads_by : (scenario : Scenario) (n : ℕ) (s : Simulation) (index number : ℕ) (seat : RunningPart) (e : Event)
+    (found : FoundBurst) → IsValidScenario scenario → IsSought scenario n s index number seat e
+    → shown_burst found ≡ (seat.run.state.domain, e) → LeadsToBurst scenario index number (Some found)
+leads_by scenario n s index number seat e found v sought shown = record {
   simulation = end.0;
   scheduled = end.1;
   same =
       ap {B = Option (DomainState × Event)} (λ b. Some b) shown
-      ∙ sym (ap (λ o. burst_found number o (slice_get (journals_of end.0) place)) spec.1.0
+      ∙ sym (ap (λ o. burst_found number o (slice_get (journals_of end.0) index)) spec.1.0
       ∙ ap (burst_found number (Some spec.0)) whole
       ∙ found_by number spec.0 seat on.0 e spec.1.1 sought.none sought.burst);
 }
@@ -339,12 +339,12 @@ leads_by scenario n s place number seat e found v sought shown = record {
     end : (t : Simulation) × IsScheduledRun scenario t
     end = scheduled_ends scenario v
 
-    spec : (spec : PartSpec) × ((slice_get scenario.parts place ≡ Some spec) × IsSeatOf spec seat)
-    spec = seat_spec scenario.parts sought.parts place seat sought.seats sought.at
+    spec : (spec : PartSpec) × ((slice_get scenario.parts index ≡ Some spec) × IsSeatOf spec seat)
+    spec = seat_spec scenario.parts sought.parts index seat sought.seats sought.at
 
     on : (rest : List Event)
-        × (slice_get (journals_of (runs end.1.steps s)) place ≡ Some ((seat.run.journal ++ e ∷ []) ++ rest))
-    on = front_stays end.1.steps s place (seat.run.journal ++ e ∷ []) sought.stands
+        × (slice_get (journals_of (runs end.1.steps s)) index ≡ Some ((seat.run.journal ++ e ∷ []) ++ rest))
+    on = front_stays end.1.steps s index (seat.run.journal ++ e ∷ []) sought.represents
 
     swap : (a b : ℕ) → a + b ≡ b + a
     swap a b = omega arith
@@ -354,29 +354,29 @@ leads_by scenario n s place number seat e found v sought shown = record {
         ap (runs end.1.steps) (sym sought.reached) ∙ sym (runs_add n end.1.steps (begins scenario))
         ∙ ap (λ (k : ℕ). runs k (begins scenario)) (swap n end.1.steps) ∙ stays scenario end.0 end.1 n
 
-    whole : slice_get (journals_of end.0) place ≡ Some ((seat.run.journal ++ e ∷ []) ++ on.0)
-    whole = ap (λ (x : Simulation). slice_get (journals_of x) place) (sym same) ∙ on.1
+    whole : slice_get (journals_of end.0) index ≡ Some ((seat.run.journal ++ e ∷ []) ++ on.0)
+    whole = ap (λ (x : Simulation). slice_get (journals_of x) index) (sym same) ∙ on.1
 
 both : (a b : Bool) → (a && b) ≡ true → (a ≡ true) × (b ≡ true)
 both true b h = (refl, h)
 both false b h = cc
 
--- the choice that was picked makes the burst
-picked_burst : (scenario : Scenario) (n : ℕ) (s t : Simulation) (place number : ℕ) (c : Choice) (seat : RunningPart)
-    → HasSought scenario n s place number → IsPick s (Some c) t → t.parts ≡ s.parts
-    → slice_get t.parts c.part ≡ Some seat → c.part ≡ place → is_burst number (event_of seat.run.state c.step) ≡ true
-    → IsSought scenario (n + 1) (taken s (choices_of s)) place number seat (event_of seat.run.state c.step)
-picked_burst scenario n s t place number c seat h pick same at part burst = record {
+-- the picked choice makes the burst
+picked_burst : (scenario : Scenario) (n : ℕ) (s t : Simulation) (index number : ℕ) (c : Choice) (seat : RunningPart)
+    → HasSought scenario n s index number → IsPick s (Some c) t → t.parts ≡ s.parts
+    → slice_get t.parts c.part ≡ Some seat → c.part ≡ index → is_burst number (event_of seat.run.state c.step) ≡ true
+    → IsSought scenario (n + 1) (taken s (choices_of s)) index number seat (event_of seat.run.state c.step)
+picked_burst scenario n s t index number c seat h pick same at part burst = record {
   reached = on.reached;
   parts = s.parts;
   seats = subst (λ (x : Simulation). AreSeatsOf scenario.parts x.parts) h.run.reached (seats_of_runs scenario n);
   at = there;
-  none = subst (HasNoBurst number) (get_map journal_of s.parts place seat there) h.none;
+  none = subst (HasNoBurst number) (get_map journal_of s.parts index seat there) h.none;
   burst = burst;
-  stands =
-      subst (λ (x : Simulation). slice_get (journals_of x) place ≡ Some (after.run.journal))
+  represents =
+      subst (λ (x : Simulation). slice_get (journals_of x) index ≡ Some (after.run.journal))
       (sym (ap (stepped_by t t.order c) at) ∙ pick.2)
-      (get_map journal_of (slice_set t.parts c.part after) place after
+      (get_map journal_of (slice_set t.parts c.part after) index after
       (subst (λ (k : ℕ). slice_get (slice_set t.parts c.part after) k ≡ Some after) part
       (get_set_same t.parts c.part seat after at)));
 }
@@ -387,20 +387,20 @@ picked_burst scenario n s t place number c seat h pick same at part burst = reco
     after : RunningPart
     after = part_after c.step seat
 
-    there : slice_get s.parts place ≡ Some seat
-    there = ap (λ parts. slice_get parts place) (sym same) ∙ ap (slice_get t.parts) (sym part) ∙ at
+    there : slice_get s.parts index ≡ Some seat
+    there = ap (λ parts. slice_get parts index) (sym same) ∙ ap (slice_get t.parts) (sym part) ∙ at
 
 -- the burst is found
-pub leads_found : (scenario : Scenario) (n : ℕ) (s t : Simulation) (place number : ℕ) (c : Choice) (is : Bool)
-    (found : FoundBurst) → IsValidScenario scenario → HasSought scenario n s place number → IsPick s (Some c) t
-    → t.parts ≡ s.parts → is ≡ is_burst_at place number c (slice_get t.parts c.part) → is ≡ true
-    → IsFoundIn (slice_get t.parts c.part) c.step found → LeadsToBurst scenario place number (Some found)
-leads_found scenario n s t place number c is found v h pick same e test shown =
+pub leads_found : (scenario : Scenario) (n : ℕ) (s t : Simulation) (index number : ℕ) (c : Choice) (is : Bool)
+    (found : FoundBurst) → IsValidScenario scenario → HasSought scenario n s index number → IsPick s (Some c) t
+    → t.parts ≡ s.parts → is ≡ is_burst_at index number c (slice_get t.parts c.part) → is ≡ true
+    → IsFoundIn (slice_get t.parts c.part) c.step found → LeadsToBurst scenario index number (Some found)
+leads_found scenario n s t index number c is found v h pick same e test shown =
     let here = has_seat c t.parts (slice_get t.parts c.part) refl pick.1 in
     let seat : RunningPart = here.0 in
     let made : Event = event_of seat.run.state c.step in
     let passed =
-    both (c.part == place) (is_burst number made) (sym (ap (is_burst_at place number c) here.1) ∙ sym e ∙ test) in
-    leads_by scenario (n + 1) (taken s (choices_of s)) place number seat made found v
-    (picked_burst scenario n s t place number c seat h pick same here.1 (eqb-true c.part place passed.0) passed.1)
+    both (c.part == index) (is_burst number made) (sym (ap (is_burst_at index number c) here.1) ∙ sym e ∙ test) in
+    leads_by scenario (n + 1) (taken s (choices_of s)) index number seat made found v
+    (picked_burst scenario n s t index number c seat h pick same here.1 (eqb-true c.part index passed.0) passed.1)
     (subst (λ o. IsFoundIn o c.step found) here.1 shown)

@@ -7,19 +7,19 @@ use Rattle.nook_data.specs.declared.memory.NoMemory.{NoMemory}
 use Rattle.nook_io.specs.Listening.{Listening}
 use Rattle.part_defs.specs.Runs.{event_of}
 use Rattle.run_defs.specs.Simulation.{Choice, RunningPart, ThreadState, part_after, threads_after}
-use Rattle.part_laws.proofs.Places.{get_mid, some_same}
-use Rattle.request_taps.specs.Bus.{told, told_all}
+use Rattle.part_laws.proofs.Indices.{get_mid, some_same}
+use Rattle.request_taps.specs.Bus.{after_hearing, after_hearing_all}
 use Rattle.request_taps.specs.declared.tap.Tap.{Tap}
 use Rattle.sim_run.specs.Advanced.{IsSteppedSeat, IsTaken}
 use Rattle.sim_run.specs.Published.{HearsChoice, made_of}
 
--- A part's step, and its event, which is the newest one of the part.
+-- A part's step and its event, which is the newest one of the part.
 
--- the part at a place took the step, and its newest event is this one
-pub record HasTaken (q : Option RunningPart) (parts : List RunningPart) (place : ℕ) (s : Step) (new : List RunningPart) (e : Event) : Type 0 where
+-- part `index` took the step, and its newest event is this one
+pub record HasTaken (q : Option RunningPart) (parts : List RunningPart) (index : ℕ) (s : Step) (new : List RunningPart) (e : Event) : Type 0 where
   pub seat : RunningPart
   pub was : q ≡ Some seat
-  pub left : new ≡ slice_set parts place (part_after s seat)
+  pub left : new ≡ slice_set parts index (part_after s seat)
   pub event : e ≡ event_of seat.run.state s
 
 pub last_of : (events : List Event) (e x : Event) → slice_get (events ++ e ∷ []) (length (events ++ e ∷ []) - 1) ≡ Some x → x ≡ e
@@ -30,11 +30,11 @@ last_of events e x h =
     less : (n m : ℕ) → n ≡ m + 1 → n - 1 ≡ m
     less n m e = omega arith
 
-has_taken_at : (q : Option RunningPart) (parts new : List RunningPart) (place : ℕ) (s : Step) (now : RunningPart) (e : Event) → IsSteppedSeat q parts place s new
-    → now ≡ get_or new place now → slice_get now.run.journal (length now.run.journal - 1) ≡ Some e → HasTaken q parts place s new e
-has_taken_at None parts new place s now e h at newest = absurd h
-has_taken_at (Some seat) parts new place s now e h at newest =
-    let is : now ≡ part_after s seat = at ∙ get_or_from_slice_get new place (part_after s seat) now h.1 in
+has_taken_at : (q : Option RunningPart) (parts new : List RunningPart) (index : ℕ) (s : Step) (now : RunningPart) (e : Event) → IsSteppedSeat q parts index s new
+    → now ≡ get_or new index now → slice_get now.run.journal (length now.run.journal - 1) ≡ Some e → HasTaken q parts index s new e
+has_taken_at None parts new index s now e h at newest = absurd h
+has_taken_at (Some seat) parts new index s now e h at newest =
+    let is : now ≡ part_after s seat = at ∙ get_or_from_slice_get new index (part_after s seat) now h.1 in
     record {
       seat = seat;
       was = refl;
@@ -43,22 +43,22 @@ has_taken_at (Some seat) parts new place s now e h at newest =
           (subst (λ (x : RunningPart). slice_get x.run.journal (length x.run.journal - 1) ≡ Some e) is newest);
     }
 
-pub has_taken : (c : Choice) (parts new : List RunningPart) (place : ℕ) (s : Step) (now : RunningPart) (e : Event) → place ≡ c.part → s ≡ c.step
-    → IsSteppedSeat (slice_get parts place) parts place s new → now ≡ get_or new place now
+pub has_taken : (c : Choice) (parts new : List RunningPart) (index : ℕ) (s : Step) (now : RunningPart) (e : Event) → index ≡ c.part → s ≡ c.step
+    → IsSteppedSeat (slice_get parts index) parts index s new → now ≡ get_or new index now
     → slice_get now.run.journal (length now.run.journal - 1) ≡ Some e → HasTaken (slice_get parts c.part) parts c.part c.step new e
-has_taken c parts new place s now e part step h at newest =
+has_taken c parts new index s now e part step h at newest =
     subst (λ (n : ℕ). HasTaken (slice_get parts n) parts n c.step new e) part
-    (subst (λ s. HasTaken (slice_get parts place) parts place s new e) step
-    (has_taken_at (slice_get parts place) parts new place s now e h at newest))
+    (subst (λ s. HasTaken (slice_get parts index) parts index s new e) step
+    (has_taken_at (slice_get parts index) parts new index s now e h at newest))
 
 pub is_heard : {T : Type 0} (r : Result T NoMemory) (c : Choice) (q : Option RunningPart) (parts new : List RunningPart) (e : Event) (old after : List (Tap Listening))
-    → HasTaken q parts c.part c.step new e → after ≡ map (told c.part e) old → HearsChoice (made_of c q) r old after
-unfolding told_all
+    → HasTaken q parts c.part c.step new e → after ≡ map (after_hearing c.part e) old → HearsChoice (made_of c q) r old after
+unfolding after_hearing_all
 is_heard r c q parts new e old after h heard =
     subst (λ q. HearsChoice (made_of c q) r old after) (sym h.was) (by_result r)
   where
-    all : after ≡ told_all (made_of c (Some h.seat)) old
-    all = heard ∙ ap (λ x. map (told c.part x) old) h.event
+    all : after ≡ after_hearing_all (made_of c (Some h.seat)) old
+    all = heard ∙ ap (λ x. map (after_hearing c.part x) old) h.event
 
     by_result : {T : Type 0} (r : Result T NoMemory) → HearsChoice (made_of c (Some h.seat)) r old after
     by_result (Ok x) = all
@@ -67,7 +67,7 @@ is_heard r c q parts new e old after h heard =
 pub is_taken : {T E : Type 0} (r : Result T E) (c : Choice) (part : ℕ) (q : Option RunningPart) (parts new : List RunningPart) (e : Event)
     (threads noted : List ThreadState) → part ≡ c.part → HasTaken q parts c.part c.step new e → OnOk r (noted ≡ threads_after 0 part e threads)
     → OnOk r (IsTaken q c parts threads new noted)
-is_taken (Err x) c part q parts new e threads noted same h told = tt
-is_taken (Ok x) c part q parts new e threads noted same h told =
+is_taken (Err x) c part q parts new e threads noted same h after_hearing = tt
+is_taken (Ok x) c part q parts new e threads noted same h after_hearing =
     subst (λ q. IsTaken q c parts threads new noted) (sym h.was)
-    (h.left, told ∙ ap (λ (n : ℕ). threads_after 0 n e threads) same ∙ ap (λ x. threads_after 0 c.part x threads) h.event)
+    (h.left, after_hearing ∙ ap (λ (n : ℕ). threads_after 0 n e threads) same ∙ ap (λ x. threads_after 0 c.part x threads) h.event)

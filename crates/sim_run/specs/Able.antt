@@ -5,19 +5,19 @@ use Rattle.nook_data.specs.declared.calls.Op.{Op}
 use Rattle.run_defs.specs.Simulation.{RunningPart, ThreadState, Waiting}
 use Rattle.sim_run.specs.Actors.{has_step, named_if}
 
--- Which threads have a step, kept from one step of the run to the next.
+-- Which threads have a step, carried over from one step of the run to the next.
 
--- each flag tells whether its thread has a step
+-- each flag says whether its thread has a step
 pub record AreAble (parts : List RunningPart) (threads : List ThreadState) (able : List Bool) : Type 0 where
   pub count : length able ≡ length threads
   pub each : (thread : ℕ) (t : ThreadState) → slice_get threads thread ≡ Some t → slice_get able thread ≡ Some (has_step thread parts t)
 
--- the threads whose flags say so, of which the first is given
+-- the threads whose flags are true; the first flag is that of `thread`
 unfoldable pub able_actors : ℕ → List Bool → List ℕ
 able_actors thread [] = []
 able_actors thread (flag ∷ able) = named_if flag thread ++ able_actors (thread + 1) able
 
--- Which threads an event of a part concerns: those that look at the part for their next step, and the one that invoked.
+-- Which threads an event of a part concerns: those whose next step depends on the part, and the one that invoked.
 
 abbrev pub invokes_in : ℕ → List (ℕ × Op) → Bool
 invokes_in part [] = false
@@ -37,7 +37,7 @@ is_invocation thread e = false
 abbrev pub concerns : ℕ → ℕ → Event → ThreadState → Bool
 concerns thread part e t = looks_at part t || is_invocation thread e
 
--- the flags are right of the first threads, and of every later one that the event does not concern
+-- the flags of the first threads are correct, and so is that of each later thread that the event does not concern
 pub record AreAbleUpTo (first part : ℕ) (e : Event) (parts : List RunningPart) (threads : List ThreadState) (able : List Bool) : Type 0 where
   pub count : length able ≡ length threads
   pub heard : (thread : ℕ) (t : ThreadState) → thread < first → slice_get threads thread ≡ Some t

@@ -8,12 +8,12 @@ use Rattle.nook_data.specs.declared.steps.Step.{Step}
 use Rattle.sim_run.specs.Published.{made, made_of}
 use Rattle.sim_run.specs.Reached.{IsOpenChoice}
 
--- How a method's result stands to the definition of a run.
+-- How the results of methods relate to the definition of a run.
 
-abbrev pub standing : Order → List RunningPart → List ThreadState → Simulation
-standing order parts threads = record { order = order; parts = parts; threads = threads }
+abbrev pub state_at : Order → List RunningPart → List ThreadState → Simulation
+state_at order parts threads = record { order = order; parts = parts; threads = threads }
 
--- the choice that the schedule picks, and the simulation before that choice is taken; or there is none
+-- the choice that the schedule picks, and the simulation before that choice is taken; or there is no choice
 abbrev pub IsPick : Simulation → Option Choice → Simulation → Type 0
 IsPick s None t = (choices_of s ≡ []) × (t ≡ s)
 IsPick s (Some c) t =
@@ -27,11 +27,11 @@ abbrev pub IsAdvanced : Simulation → Bool → Simulation → Type 0
 IsAdvanced s true t = (0 < length (choices_of s)) × (t ≡ taken s (choices_of s))
 IsAdvanced s false t = (choices_of s ≡ []) × (t ≡ s)
 
--- the part at a place took the step, and its newest event is that of the step
+-- part `index` took the step, and its newest event is that of the step
 abbrev pub IsSteppedSeat : Option RunningPart → List RunningPart → ℕ → Step → List RunningPart → Type 0
-IsSteppedSeat None seats place s new = ⊥
-IsSteppedSeat (Some seat) seats place s new =
-    (new ≡ slice_set seats place (part_after s seat)) × (slice_get new place ≡ Some (part_after s seat))
+IsSteppedSeat None seats index s new = ⊥
+IsSteppedSeat (Some seat) seats index s new =
+    (new ≡ slice_set seats index (part_after s seat)) × (slice_get new index ≡ Some (part_after s seat))
 
 -- the choice's part took its step, and each thread noted the event
 abbrev pub IsTaken : Option RunningPart → Choice → List RunningPart → List ThreadState → List RunningPart → List ThreadState → Type 0

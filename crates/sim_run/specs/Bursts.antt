@@ -11,7 +11,7 @@ use Rattle.sim_run.specs.declared.whole_run.FoundBurst.{FoundBurst}
 
 -- One burst in the journals of a run, by its number.
 
--- the event is the burst of a number
+-- the event is the burst with this number
 abbrev pub is_burst : ℕ → Event → Bool
 is_burst number (event.Burst context call burst count end acts answer failure) = burst == number
 is_burst number _ = false
@@ -21,7 +21,7 @@ abbrev pub found_at : PartSpec → List Event → Option ℕ → Option (DomainS
 found_at spec journal None = None
 found_at spec journal (Some k) = option_map (λ e. ((state_of spec (take k journal)).domain, e)) (slice_get journal k)
 
--- the same by the burst's number; none where the run has no such part, or the part no such burst
+-- the same by the burst's number; none if the run has no such part, or the part has no such burst
 abbrev pub burst_found : ℕ → Option PartSpec → Option (List Event) → Option (DomainState × Event)
 burst_found number None journal = None
 burst_found number (Some spec) None = None
@@ -31,25 +31,25 @@ burst_found number (Some spec) (Some journal) = found_at spec journal (position 
 abbrev pub shown_burst : FoundBurst → DomainState × Event
 shown_burst b = (b.domain.state, b.event)
 
--- it is the burst of a number of the part at a place in the scenario's scheduled run
-pub record LeadsToBurst (scenario : Scenario) (place number : ℕ) (found : Option FoundBurst) : Type 0 where
+-- it is burst `number` of part `index` in the scenario's scheduled run
+pub record LeadsToBurst (scenario : Scenario) (index number : ℕ) (found : Option FoundBurst) : Type 0 where
   pub simulation : Simulation
   pub scheduled : IsScheduledRun scenario simulation
   pub same : option_map shown_burst found
-      ≡ burst_found number (slice_get scenario.parts place) (slice_get (journals_of simulation) place)
+      ≡ burst_found number (slice_get scenario.parts index) (slice_get (journals_of simulation) index)
 
--- The burst while it is sought.
+-- The burst during the search for it.
 
--- a choice, whose part is as it stands, is the burst of a number of the part at a place
+-- a choice makes burst `number` of part `index`, if its part is now this one
 abbrev pub is_burst_at : ℕ → ℕ → Choice → Option RunningPart → Bool
-is_burst_at place number c None = false
-is_burst_at place number c (Some seat) = c.part == place && is_burst number (event_of seat.run.state c.step)
+is_burst_at index number c None = false
+is_burst_at index number c (Some seat) = c.part == index && is_burst number (event_of seat.run.state c.step)
 
 -- the domain before a step, and the step's event
 abbrev pub shown_step : PartState → Step → DomainState × Event
 shown_step p s = (p.domain, event_of p s)
 
--- what was found is a step of a part that is as it stands
+-- what was found is a step of the part in its current state
 abbrev pub IsFoundIn : Option RunningPart → Step → FoundBurst → Type 0
 IsFoundIn None s found = ⊥
 IsFoundIn (Some seat) s found = shown_burst found ≡ shown_step seat.run.state s

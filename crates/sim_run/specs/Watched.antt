@@ -1,26 +1,26 @@
 use Rattle.std.specs.Prelude.{◌≡◌, Bool, false, is_some, Option, Some, None, List, [], ◌∷◌, ◌++◌}
 use Rattle.nook_data.specs.Types.{Break, Event}
-use Rattle.contract_monitor.specs.Monitors.{Monitored, StandsFor}
+use Rattle.contract_monitor.specs.Monitors.{Monitored, Represents}
 use Rattle.guard_defs.specs.GuardedRuns.{spec_of}
 use Rattle.promise_defs.specs.Contract.{first_break}
 use Rattle.run_defs.specs.Simulation.{RunningPart}
 
--- Monitors of the parts of a run, while its first break is sought.
+-- Monitors of the parts of a run, during the search for its first break.
 
 -- the first break of a part's journal
 abbrev pub first_break_of : RunningPart → Option Break
 first_break_of seat = first_break (spec_of seat).class (spec_of seat).blocks seat.run.journal
 
--- a part that is there has broken a clause
+-- the part exists and has broken a clause
 abbrev pub has_broken_at : Option RunningPart → Bool
 has_broken_at None = false
 has_broken_at (Some seat) = is_some (first_break_of seat)
 
 -- a monitor has seen a part's journal
 abbrev pub HasSeen : RunningPart → Monitored → Type 0
-HasSeen seat m = StandsFor (spec_of seat).class (spec_of seat).blocks seat.run.journal m
+HasSeen seat m = Represents (spec_of seat).class (spec_of seat).blocks seat.run.journal m
 
--- that of a part that is there
+-- a monitor has seen the journal of a part that exists
 abbrev pub HasSeenAt : Option RunningPart → Monitored → Type 0
 HasSeenAt None m = ⊥
 HasSeenAt (Some seat) m = HasSeen seat m
@@ -32,14 +32,14 @@ HaveSeen [] (m ∷ monitors) = ⊥
 HaveSeen (seat ∷ seats) [] = ⊥
 HaveSeen (seat ∷ seats) (m ∷ monitors) = HasSeen seat m × HaveSeen seats monitors
 
--- a monitor has seen a part's journal but for the newest event
-pub record IsOneBehind (seat : RunningPart) (m : Monitored) : Type 0 where
+-- a monitor has seen a part's journal except for the newest event
+pub record IsOneAfter (seat : RunningPart) (m : Monitored) : Type 0 where
   pub front : List Event
   pub newest : Event
   pub journal : seat.run.journal ≡ front ++ newest ∷ []
-  pub seen : StandsFor (spec_of seat).class (spec_of seat).blocks front m
+  pub seen : Represents (spec_of seat).class (spec_of seat).blocks front m
 
--- that of a part that is there
-abbrev pub IsOneBehindAt : Option RunningPart → Monitored → Type 0
-IsOneBehindAt None m = ⊥
-IsOneBehindAt (Some seat) m = IsOneBehind seat m
+-- the same for a part that exists
+abbrev pub IsOneAfterAt : Option RunningPart → Monitored → Type 0
+IsOneAfterAt None m = ⊥
+IsOneAfterAt (Some seat) m = IsOneAfter seat m

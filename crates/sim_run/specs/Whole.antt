@@ -5,23 +5,23 @@ use Rattle.nook_data.specs.declared.scenario.Scenario.{Scenario}
 use Rattle.nook_io.specs.Listening.{Listening}
 use Rattle.nook_data.specs.Views.Room.{Kept}
 use Rattle.run_defs.specs.Simulation.{IsScheduledRun, Simulation, answer_table, begins, journals_of}
-use Rattle.request_taps.specs.Bus.{result_of, told_all}
+use Rattle.request_taps.specs.Bus.{result_of, after_hearing_all}
 use Rattle.request_taps.specs.declared.tap.Tap.{Tap}
-use Rattle.run_ends.specs.Journals.{events_in}
+use Rattle.run_results.specs.Journals.{events_in}
 use Rattle.sim_run.specs.Published.{published}
 
--- What a whole run leaves.
+-- The result of a whole run.
 
--- the taps heard the events of so many steps of the run, in the order in which they were made
+-- the taps heard the events of the run's first `steps` steps, in the order in which they were made
 abbrev pub HeardSteps : Scenario → ℕ → List (Tap Listening) → List (Tap Listening) → Type 0
-HeardSteps scenario steps old new = new ≡ told_all (published steps (begins scenario)) old
+HeardSteps scenario steps old new = new ≡ after_hearing_all (published steps (begins scenario)) old
 
--- the run is whole, and the taps heard each of its events
+-- the run is complete, and the taps heard each of its events
 pub record IsWhole (scenario : Scenario) (simulation : Simulation) (old new : List (Tap Listening)) : Type 0 where
   pub scheduled : IsScheduledRun scenario simulation
   pub heard : HeardSteps scenario scheduled.steps old new
 
--- the journals and the answers are those of the scheduled run; the taps heard each event of it, and their totals are told
+-- the journals and answers are those of the scheduled run; the taps heard each event of it; `totals` are their totals
 pub record IsSimulated (scenario : Scenario) (journals : List (Kept Event)) (answers : List (List (ℕ × Answer)))
     (totals : List (ℕ × Bool)) (old new : List (Tap Listening)) : Type 0 where
   pub simulation : Simulation

@@ -5,11 +5,11 @@
 
 ghost use Rattle.std.specs.Prelude.{◌≡◌, ◌+◌, ◌*◌, ◌^◌, ◌<◌, ◌≤◌, ◌++◌, length, IfOk, OnOk, Some};
 ghost use Rattle.sim_run.specs.Able.{AreAble, able_actors};
-ghost use Rattle.sim_run.specs.Actors.{actors_of_seat, actors_of_seats, choice_at, choice_behind, choice_of_seat, first_from, named_if, next_from};
+ghost use Rattle.sim_run.specs.Actors.{actors_of_seat, actors_of_seats, choice_at, choice_after, choice_of_seat, first_from, named_if, next_from};
 
 use crate::chosen::Chosen;
 use crate::script::Script;
-use crate::seat::Seat;
+use crate::seat::SimulatedPart;
 use nook_data::limits::{MOST_PARTS, MOST_THREADS};
 use nook_data::memory::NoMemory;
 use std::alloc::Global;
@@ -18,23 +18,28 @@ use std::alloc::Global;
 pub fn able_threads(
     alloc: Global,
     threads: &[Script],
-    seats: &[Seat],
+    seats: &[SimulatedPart],
 ) -> Result<Vec<bool>, NoMemory>
     requires { length threads.now ≤ MOST_THREADS }
     ensures { IfOk result (λ able. AreAble seats.now threads.now able.items) }
 {
     let mut able = Vec::with_capacity(alloc, threads.len())?;
-    for (place, thread) in threads.iter().enumerate() {
-        able.push(thread.has_step(place as u8, seats))?;
+    for (index, thread) in threads.iter().enumerate() {
+        able.push(thread.has_step(index as u8, seats))?;
     }
     Ok(able)
 }
 
-/// Makes `ready` the numbers of the actors that have a step, in rising order; `able` tells which threads have one.
-pub fn list_ready(able: &[bool], seats: &[Seat], ready: &mut Vec<u16>) -> Result<(), NoMemory>
+/// Makes `ready` the list of the actors that have a step, in ascending order; `able` says which threads have one.
+pub fn list_ready(
+    able: &[bool],
+    seats: &[SimulatedPart],
+    ready: &mut Vec<u16>,
+) -> Result<(), NoMemory>
     requires able { length able.now ≤ MOST_THREADS }
     requires seats { length seats.now ≤ MOST_PARTS }
-    ensures { OnOk result (ready.new.items ≡ able_actors 0 able.now ++ actors_of_seats (length able.now) seats.now) }
+    ensures { OnOk result
+        (ready.new.items ≡ able_actors 0 able.now ++ actors_of_seats (length able.now) seats.now) }
 {
     ready.clear();
     add_threads(able, ready)?;
@@ -46,26 +51,26 @@ fn add_threads(able: &[bool], ready: &mut Vec<u16>) -> Result<(), NoMemory>
     requires { length able.now ≤ MOST_THREADS }
     ensures { OnOk result (ready.new.items ≡ ready.old.items ++ able_actors 0 able.now) }
 {
-    for (place, is_able) in able.iter().enumerate() {
-        push_if(ready, *is_able, place as u16)?;
+    for (index, is_able) in able.iter().enumerate() {
+        push_if(ready, *is_able, index as u16)?;
     }
     Ok(())
 }
 
-/// Adds the numbers of the parts' actors that have a step, of which the first part's first one is given.
-fn add_seats(first: u16, seats: &[Seat], ready: &mut Vec<u16>) -> Result<(), NoMemory>
+/// Adds the numbers of the parts' actors that have a step. `first` is the number of the first part's first actor.
+fn add_seats(first: u16, seats: &[SimulatedPart], ready: &mut Vec<u16>) -> Result<(), NoMemory>
     requires first { first ≤ MOST_THREADS }
     requires seats { length seats.now ≤ MOST_PARTS }
     ensures { OnOk result (ready.new.items ≡ ready.old.items ++ actors_of_seats first seats.now) }
 {
-    for (place, seat) in seats.iter().enumerate() {
-        add_seat(first + 2 * place as u16, seat, ready)?;
+    for (index, seat) in seats.iter().enumerate() {
+        add_seat(first + 2 * index as u16, seat, ready)?;
     }
     Ok(())
 }
 
-/// Adds the numbers of a part's actors that have a step, of which the first one is given.
-fn add_seat(actor: u16, seat: &Seat, ready: &mut Vec<u16>) -> Result<(), NoMemory>
+/// Adds the numbers of a part's actors that have a step. `actor` is the number of its first actor.
+fn add_seat(actor: u16, seat: &SimulatedPart, ready: &mut Vec<u16>) -> Result<(), NoMemory>
     requires { actor < MOST_THREADS + 2 * MOST_PARTS }
     ensures { OnOk result (ready.new.items ≡ ready.old.items ++ actors_of_seat actor seat.now) }
 {
@@ -73,7 +78,7 @@ fn add_seat(actor: u16, seat: &Seat, ready: &mut Vec<u16>) -> Result<(), NoMemor
     push_if(ready, seat.has_arrival(), actor + 1)
 }
 
-/// Adds a number where the test holds.
+/// Adds a number if the test is true.
 fn push_if(ready: &mut Vec<u16>, test: bool, actor: u16) -> Result<(), NoMemory>
     ensures { OnOk result (ready.new.items ≡ ready.old.items ++ named_if test actor) }
 {
@@ -83,38 +88,38 @@ fn push_if(ready: &mut Vec<u16>, test: bool, actor: u16) -> Result<(), NoMemory>
     Ok(())
 }
 
-/// The step of an actor, where it has one.
+/// The step of an actor, if it has one.
 #[tactic(auto, unfolding(crate::specs::Actors::choice_at))]
 pub fn choice_of(
     alloc: Global,
     actor: u16,
     threads: &[Script],
-    seats: &[Seat],
+    seats: &[SimulatedPart],
 ) -> Result<Option<Chosen>, NoMemory>
     requires { length threads.now ≤ MOST_THREADS }
     ensures { IfOk result (λ choice. choice ≡ choice_at seats.now threads.now actor) }
 {
-    let place = actor as usize;
-    if place < threads.len() {
-        threads[place].choice(alloc, actor as u8, seats)
+    let index = actor as usize;
+    if index < threads.len() {
+        threads[index].choice(alloc, actor as u8, seats)
     } else {
-        choice_behind(alloc, actor, place - threads.len(), seats)
+        choice_after(alloc, actor, index - threads.len(), seats)
     }
 }
 
-/// The step of an actor behind the threads.
-fn choice_behind(
+/// The step of an actor after the threads.
+fn choice_after(
     alloc: Global,
     actor: u16,
-    behind: usize,
-    seats: &[Seat],
+    following: usize,
+    seats: &[SimulatedPart],
 ) -> Result<Option<Chosen>, NoMemory>
-    requires { behind < 2 ^ 16 }
-    ensures { IfOk result (λ choice. choice ≡ choice_behind actor behind seats.now) }
+    requires { following < 2 ^ 16 }
+    ensures { IfOk result (λ choice. choice ≡ choice_after actor following seats.now) }
 {
-    let part = behind / 2;
+    let part = following / 2;
     match seats.get(part) {
-        Some(seat) => choice_of_seat(alloc, actor, part as u32, behind % 2, seat),
+        Some(seat) => choice_of_seat(alloc, actor, part as u32, following % 2, seat),
         None => Ok(None),
     }
 }
@@ -125,7 +130,7 @@ fn choice_of_seat(
     actor: u16,
     part: u32,
     which: usize,
-    seat: &Seat,
+    seat: &SimulatedPart,
 ) -> Result<Option<Chosen>, NoMemory>
     ensures { IfOk result (λ choice. choice ≡ choice_of_seat actor part which (Some seat.now)) }
 {
@@ -138,20 +143,22 @@ fn choice_of_seat(
 }
 
 /// The next actor of a round robin: the first one at or after the cursor that has a step, else the first that has one.
-/// `able` tells which threads have one.
-pub fn next_ready(cursor: u32, able: &[bool], seats: &[Seat]) -> Option<u16>
+/// `able` says which threads have one.
+pub fn next_ready(cursor: u32, able: &[bool], seats: &[SimulatedPart]) -> Option<u16>
     requires able { length able.now ≤ MOST_THREADS }
     requires seats { length seats.now ≤ MOST_PARTS }
-    ensures { result ≡ next_from cursor (able_actors 0 able.now ++ actors_of_seats (length able.now) seats.now) }
+    ensures { result ≡ next_from cursor
+        (able_actors 0 able.now ++ actors_of_seats (length able.now) seats.now) }
 {
     first_ready(cursor, able, seats).or(first_ready(0, able, seats))
 }
 
-/// The first actor from a number on that has a step; `able` tells which threads have one.
-fn first_ready(least: u32, able: &[bool], seats: &[Seat]) -> Option<u16>
+/// The first actor from a number on that has a step; `able` says which threads have one.
+fn first_ready(least: u32, able: &[bool], seats: &[SimulatedPart]) -> Option<u16>
     requires able { length able.now ≤ MOST_THREADS }
     requires seats { length seats.now ≤ MOST_PARTS }
-    ensures { result ≡ first_from least (able_actors 0 able.now ++ actors_of_seats (length able.now) seats.now) }
+    ensures { result ≡ first_from least
+        (able_actors 0 able.now ++ actors_of_seats (length able.now) seats.now) }
 {
     match first_thread(least, able) {
         Some(actor) => Some(actor),
@@ -164,30 +171,30 @@ fn first_thread(least: u32, able: &[bool]) -> Option<u16>
     requires { length able.now ≤ MOST_THREADS }
     ensures { result ≡ first_from least (able_actors 0 able.now) }
 {
-    for (place, is_able) in able.iter().enumerate() {
-        if *is_able && least <= place as u32 {
-            return Some(place as u16);
+    for (index, is_able) in able.iter().enumerate() {
+        if *is_able && least <= index as u32 {
+            return Some(index as u16);
         }
     }
     None
 }
 
-/// The first of the parts' actors from a number on that has a step; the first part's first actor is given.
-fn first_of_seats(least: u32, first: u16, seats: &[Seat]) -> Option<u16>
+/// The first of the parts' actors from a number on that has a step. `first` is the first part's first actor.
+fn first_of_seats(least: u32, first: u16, seats: &[SimulatedPart]) -> Option<u16>
     requires first { first ≤ MOST_THREADS }
     requires seats { length seats.now ≤ MOST_PARTS }
     ensures { result ≡ first_from least (actors_of_seats first seats.now) }
 {
-    for (place, seat) in seats.iter().enumerate() {
-        if let Some(actor) = first_of_seat(least, first + 2 * place as u16, seat) {
+    for (index, seat) in seats.iter().enumerate() {
+        if let Some(actor) = first_of_seat(least, first + 2 * index as u16, seat) {
             return Some(actor);
         }
     }
     None
 }
 
-/// The first of a part's two actors from a number on that has a step; the first of the two is given.
-fn first_of_seat(least: u32, actor: u16, seat: &Seat) -> Option<u16>
+/// The first of a part's two actors from a number on that has a step. `actor` is the first of the two.
+fn first_of_seat(least: u32, actor: u16, seat: &SimulatedPart) -> Option<u16>
     requires { actor < MOST_THREADS + 2 * MOST_PARTS }
     ensures { result ≡ first_from least (actors_of_seat actor seat.now) }
 {

@@ -1,12 +1,12 @@
 //! The first burst of a run that breaks a clause of its class's contract.
 //!
-//! It is found in two passes, since a run is determined by its scenario: the first counts the steps that come before it,
-//! the second takes them again. So a domain is copied once, and not at each burst.
+//! It is found in two passes, since a run is determined by its scenario: the first counts the steps before the break,
+//! the second takes them again. So a domain is copied only once, not at each burst.
 
 ghost use Rattle.std.specs.Prelude.{◌≡◌, IfOk, OnOk, slice_get};
 ghost use Rattle.nook_data.specs.Valid.{IsValidScenario};
 ghost use Rattle.run_defs.specs.Simulation.{begins, runs, stepped_by};
-ghost use Rattle.sim_run.specs.Breaks.{BreaksBehind, HasBreakBehind, IsWrongBurst, LeadsToBreak};
+ghost use Rattle.sim_run.specs.Breaks.{BreaksAfter, HasBreakAfter, IsWrongBurst, LeadsToBreak};
 ghost use Rattle.sim_run.specs.Reached.{IsOpenChoice};
 ghost use Rattle.sim_run.specs.Watched.{HaveSeen, has_broken_at};
 
@@ -23,8 +23,8 @@ use part_core::LeftRooms;
 use request_taps::Bus;
 use std::alloc::Global;
 
-/// A burst of a run that breaks a clause: its part, the part's domain as it stood before the burst's step, its event, and
-/// what the contract knew of the part before it.
+/// A burst of a run that breaks a clause: its part, the part's domain before the burst's step, its event, and
+/// what the contract knew of the part before the burst.
 #[derive(Drop)]
 pub struct WrongBurst {
     pub part: u32,
@@ -33,8 +33,8 @@ pub struct WrongBurst {
     pub monitor: Monitor,
 }
 
-/// Runs a valid scenario up to the first burst, over all its parts, that breaks a clause of its class's contract. `None`
-/// where the whole run breaks none.
+/// Runs a valid scenario up to the first burst, over all its parts, that breaks a clause of its class contract. `None`
+/// if the whole run breaks none.
 ///
 /// # Errors
 ///
@@ -44,16 +44,16 @@ pub fn run_to_break(alloc: Global, scenario: &Scenario) -> Result<Option<WrongBu
     ensures { IfOk result (LeadsToBreak scenario.now) }
 {
     match steps_to_break(alloc, scenario)? {
-        Some(steps) => Ok(Some(burst_behind(alloc, scenario, steps)?)),
+        Some(steps) => Ok(Some(burst_following(alloc, scenario, steps)?)),
         None => Ok(None),
     }
 }
 
-/// The number of steps of a valid scenario's run that come before its first break. `None` where the whole run breaks no
+/// The number of steps before the first break of a valid scenario's run. `None` if the whole run breaks no
 /// clause.
 fn steps_to_break(alloc: Global, scenario: &Scenario) -> Result<Option<u32>, NoMemory>
     requires { IsValidScenario scenario.now }
-    ensures { IfOk result (HasBreakBehind scenario.now) }
+    ensures { IfOk result (HasBreakAfter scenario.now) }
 {
     let mut unheard: Bus<CountListener> = Bus::of(alloc, Vec::new(alloc))?;
     let mut simulation = Simulating::new(alloc, scenario, &mut LeftRooms::none(alloc))?;
@@ -69,8 +69,8 @@ fn steps_to_break(alloc: Global, scenario: &Scenario) -> Result<Option<u32>, NoM
     unreachable!()
 }
 
-/// Takes a choice that may be taken, and the monitor of its part sees the event. Tells whether the part has then broken
-/// a clause.
+/// Takes a choice that may be taken, and shows the event to the monitor of its part. Returns whether the part has then
+/// broken a clause.
 pub fn take_judged(
     simulation: &mut Simulating,
     monitors: &mut [Monitor],
@@ -80,19 +80,21 @@ pub fn take_judged(
     requires choice { IsOpenChoice simulation.old.parts chosen }
     requires seen { HaveSeen simulation.old.parts monitors.old }
     ensures taken { OnOk result (simulation.new
-        ≡ stepped_by simulation.old simulation.old.order chosen (slice_get simulation.old.parts chosen.part)) }
+        ≡ stepped_by simulation.old simulation.old.order chosen
+        (slice_get simulation.old.parts chosen.part)) }
     ensures seen { OnOk result (HaveSeen simulation.new.parts monitors.new) }
-    ensures broken { IfOk result (λ broken. broken ≡ has_broken_at (slice_get simulation.new.parts chosen.part)) }
+    ensures broken { IfOk result
+        (λ broken. broken ≡ has_broken_at (slice_get simulation.new.parts chosen.part)) }
 {
-    let place = chosen.part();
+    let index = chosen.part();
     simulation.take(unheard, chosen)?;
-    simulation.judge_newest(place, &mut monitors[place as usize])
+    simulation.judge_newest(index, &mut monitors[index as usize])
 }
 
-/// The burst behind so many steps of a valid scenario's run, which is the first that breaks a clause.
-fn burst_behind(alloc: Global, scenario: &Scenario, steps: u32) -> Result<WrongBurst, NoMemory>
+/// The burst after this many steps of a valid scenario's run, which is the first that breaks a clause.
+fn burst_following(alloc: Global, scenario: &Scenario, steps: u32) -> Result<WrongBurst, NoMemory>
     requires valid { IsValidScenario scenario.now }
-    requires breaks { BreaksBehind scenario.now steps }
+    requires breaks { BreaksAfter scenario.now steps }
     ensures { IfOk result (IsWrongBurst scenario.now) }
 {
     let mut simulation = run_for(alloc, scenario, steps)?;
@@ -110,7 +112,7 @@ fn burst_behind(alloc: Global, scenario: &Scenario, steps: u32) -> Result<WrongB
     })
 }
 
-/// The run of a valid scenario after so many steps; the whole run where it has fewer.
+/// The run of a valid scenario after this many steps; the whole run if it has fewer.
 fn run_for<'a>(
     alloc: Global,
     scenario: &'a Scenario,

@@ -23,7 +23,7 @@ impl Model for Chosen {
 }
 
 impl Chosen {
-    /// The choice of an actor, where it has a step.
+    /// The choice of an actor, if it has a step.
     pub fn of_step(actor: u16, part: u32, step: Option<Step>) -> Option<Chosen>
         ensures { result ≡ choice_by actor part step }
     {
@@ -47,7 +47,7 @@ impl Chosen {
         &self.step
     }
 
-    /// The step, of its own.
+    /// The step, moved out.
     pub fn into_step(self) -> Step
         ensures { result ≡ self.step }
     {

@@ -1,5 +1,5 @@
-//! Whole runs: the actors of a scenario take their steps under its schedule until none has a step left, or until a
-//! burst that is sought.
+//! Whole runs: the actors of a scenario take steps under its schedule until none has a step, or until a burst
+//! that the caller looks for.
 #![tactic(auto)]
 
 mod actors;

@@ -8,7 +8,7 @@ ghost use Rattle.sim_run.specs.Opened.{waiting_of};
 ghost use Rattle.run_defs.specs.Simulation.{going_on, invocation, opening_thread, started, thread_after};
 
 use crate::chosen::Chosen;
-use crate::seat::Seat;
+use crate::seat::SimulatedPart;
 use nook_data::calls::{Answer, Op, PartAnswers};
 use nook_data::digest::{mixed, mixed_words};
 use nook_data::lists::{Items, TryCopy};
@@ -55,7 +55,7 @@ impl<'a> Script<'a> {
         }
     }
 
-    /// An equal thread of its own.
+    /// A copy of the thread.
     pub fn copied(&self, alloc: Global) -> Result<Script<'a>, NoMemory>
         ensures { IfOk result (λ made. made ≡ self.now) }
     {
@@ -67,7 +67,7 @@ impl<'a> Script<'a> {
         })
     }
 
-    /// Whether the other thread is as this one.
+    /// Whether the other thread is the same.
     pub fn is_same(&self, other: &Script) -> bool
         ensures { result ≡ true → self.now ≡ other.now }
     {
@@ -76,7 +76,7 @@ impl<'a> Script<'a> {
             && self.answers.is_same(&other.answers)
     }
 
-    /// A digest, and where the thread is in its script with it, and what it was answered.
+    /// Mixes the thread's position in its script and its answers into a digest.
     pub fn digest(&self, digest: u64) -> u64 {
         let mut digest = mixed(digest, self.rest.len() as u64);
         if let Some(call) = self.waiting {
@@ -95,8 +95,8 @@ impl<'a> Script<'a> {
         &self.answers
     }
 
-    /// Whether the thread has a step: of its open call, else the invocation of its next operation.
-    pub fn has_step(&self, thread: u8, seats: &[Seat]) -> bool
+    /// Whether the thread has a step: that of its open call, else the invocation of its next operation.
+    pub fn has_step(&self, thread: u8, seats: &[SimulatedPart]) -> bool
         ensures { result ≡ has_step thread seats.now self.now }
     {
         match self.waiting {
@@ -108,14 +108,15 @@ impl<'a> Script<'a> {
         }
     }
 
-    /// The thread's step, where it has one. An operation that it invokes is copied.
+    /// The thread's step, if it has one. An operation that it invokes is copied.
     pub fn choice(
         &self,
         alloc: Global,
         thread: u8,
-        seats: &[Seat],
+        seats: &[SimulatedPart],
     ) -> Result<Option<Chosen>, NoMemory>
-        ensures { IfOk result (λ choice. choice ≡ choice_when thread seats.now self.now self.now.waiting) }
+        ensures { IfOk result
+            (λ choice. choice ≡ choice_when thread seats.now self.now self.now.waiting) }
     {
         let actor = thread as u16;
         match self.waiting {
@@ -130,7 +131,7 @@ impl<'a> Script<'a> {
         }
     }
 
-    /// Whether the thread looks at the part for its next step.
+    /// Whether the thread's next step depends on the part.
     fn looks_at(&self, part: u32) -> bool
         ensures { result ≡ looks_at part self.now }
     {
@@ -143,16 +144,16 @@ impl<'a> Script<'a> {
         }
     }
 
-    /// Whether an event of a part concerns the thread: it looks at the part, or it invoked. Any other event leaves the
-    /// thread as it is, and what it can do too.
+    /// Whether an event of a part concerns the thread: its next step depends on the part, or it invoked. Any other
+    /// event changes neither the thread nor what it can do.
     pub fn is_concerned(&self, thread: u8, part: u32, event: &Event) -> bool
         ensures { result ≡ concerns thread part event.now self.now }
     {
         self.looks_at(part) || is_invocation(thread, event)
     }
 
-    /// Notes an event of a part: this thread's invocation takes its next operation, and an answer to its open call is
-    /// kept.
+    /// Notes an event of a part: this thread's invocation removes its next operation, and an answer to its open call is
+    /// stored.
     pub fn hear(
         &mut self,
         alloc: Global,
@@ -160,13 +161,14 @@ impl<'a> Script<'a> {
         part: u32,
         event: &Event,
     ) -> Result<(), NoMemory>
-        ensures { OnOk result (self.new ≡ thread_after part event.now (started thread part event.now self.old)) }
+        ensures { OnOk result
+            (self.new ≡ thread_after part event.now (started thread part event.now self.old)) }
     {
         self.start(thread, part, event);
         self.settle(alloc, part, event)
     }
 
-    /// This thread's invocation takes its next operation.
+    /// This thread's invocation removes its next operation.
     fn start(&mut self, thread: u8, part: u32, event: &Event)
         ensures { self.new ≡ started thread part event.now self.old }
     {
@@ -182,7 +184,7 @@ impl<'a> Script<'a> {
         }
     }
 
-    /// An answer to the open call is kept.
+    /// Stores an answer to the open call.
     fn settle(&mut self, alloc: Global, part: u32, event: &Event) -> Result<(), NoMemory>
         ensures { OnOk result (self.new ≡ thread_after part event.now self.old) }
     {
@@ -207,7 +209,7 @@ impl<'a> Script<'a> {
     }
 }
 
-/// Whether two threads have the same open call, or both none.
+/// Whether two threads have the same open call, or both have none.
 fn are_same_calls(call: Option<Open>, other: Option<Open>) -> bool
     ensures { result ≡ true → waiting_of call ≡ waiting_of other }
 {
@@ -218,7 +220,7 @@ fn are_same_calls(call: Option<Open>, other: Option<Open>) -> bool
     }
 }
 
-/// A digest, and the words of an answer with it.
+/// Mixes the words of an answer into a digest.
 fn mixed_answer(digest: u64, answer: &Answer) -> u64 {
     match answer {
         Answer::Blocks(words) => mixed_words(digest, words.as_slice()),
@@ -239,7 +241,7 @@ fn is_invocation(thread: u8, event: &Event) -> bool
 }
 
 /// The next step of a thread's open call in a part.
-fn goes_on(seats: &[Seat], part: u32, thread: u8) -> Option<Step>
+fn goes_on(seats: &[SimulatedPart], part: u32, thread: u8) -> Option<Step>
     ensures { result ≡ going_on thread (slice_get seats.now part) }
 {
     match seats.get(part as usize) {
@@ -249,7 +251,7 @@ fn goes_on(seats: &[Seat], part: u32, thread: u8) -> Option<Step>
 }
 
 /// Whether a thread may invoke an operation of a part.
-fn may_invoke(seats: &[Seat], part: u32, thread: u8, op: &Op) -> bool
+fn may_invoke(seats: &[SimulatedPart], part: u32, thread: u8, op: &Op) -> bool
     ensures { result ≡ is_some (invocation thread op.now (slice_get seats.now part)) }
 {
     match seats.get(part as usize) {
@@ -258,11 +260,11 @@ fn may_invoke(seats: &[Seat], part: u32, thread: u8, op: &Op) -> bool
     }
 }
 
-/// The invocation of an operation of a part, where it may be taken.
+/// The invocation of an operation of a part, if it may be taken.
 #[tactic(auto, using(crate::proofs::Choosing::some_invocation, crate::proofs::Choosing::no_invocation))]
 fn invoked(
     alloc: Global,
-    seats: &[Seat],
+    seats: &[SimulatedPart],
     part: u32,
     thread: u8,
     op: &Op,
@@ -276,7 +278,7 @@ fn invoked(
     Ok(Some(Step::Invoke { thread, op }))
 }
 
-/// The operations behind the first one.
+/// The operations after the first one.
 fn rest_of<'a>(ops: &'a [(u32, Op)]) -> &'a [(u32, Op)]
     ensures { result.now ≡ drop 1 ops.now }
 {

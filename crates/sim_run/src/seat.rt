@@ -5,7 +5,7 @@ ghost use Rattle.part_defs.specs.Runs.{event_of, next_for, next_recovery};
 ghost use Rattle.run_defs.specs.Simulation.{arrival, coming_after, invocation, opening_part, part_after};
 ghost use Rattle.sim_run.specs.Bursts.{is_burst, shown_burst, shown_step};
 ghost use Rattle.sim_run.specs.Ends.{end_of_seat};
-ghost use Rattle.sim_run.specs.Watched.{HasSeen, IsOneBehind, first_break_of};
+ghost use Rattle.sim_run.specs.Watched.{HasSeen, IsOneAfter, first_break_of};
 ghost use Rattle.part_defs.specs.Steps.{enabled};
 ghost use Rattle.nook_data.specs.Valid.{IsValidPart};
 
@@ -18,8 +18,8 @@ use nook_data::memory::NoMemory;
 use nook_data::scenario::PartSpec;
 use nook_data::steps::{Event, Step};
 use part_core::{LeftRooms, Part};
-use report_text::PartEnd;
 use run_ends::end_of;
+use run_results::PartEnd;
 use std::alloc::Global;
 use std::marker::Model;
 
@@ -27,16 +27,16 @@ mod packed;
 
 pub use packed::PackedSeat;
 
-/// A part and the frames that have not arrived. Whether its actors have a step is found once behind each step.
+/// A part and the frames that have not arrived. Whether its actors have a step is found once after each step.
 #[derive(Drop)]
-pub struct Seat<'a> {
+pub struct SimulatedPart<'a> {
     part: Part,
     coming: &'a [Words],
     has_recovery: bool,
     has_arrival: bool,
 }
 
-impl<'a> Model for Seat<'a> {
+impl<'a> Model for SimulatedPart<'a> {
     ghost use Rattle.std.specs.Prelude.{◌≡◌, is_some};
     ghost use Rattle.part_defs.specs.Runs.{next_recovery};
     ghost use Rattle.run_defs.specs.Simulation.{RunningPart, arrival};
@@ -48,13 +48,13 @@ impl<'a> Model for Seat<'a> {
     ghost invariant = { λ s. (s.has_recovery ≡ is_some (next_recovery s.part.state)) × (s.has_arrival ≡ is_some (arrival s.part s.coming.now)) };
 }
 
-impl<'a> Seat<'a> {
+impl<'a> SimulatedPart<'a> {
     /// A valid part at the start of its boot; none of its frames has arrived.
     pub fn new(
         alloc: Global,
         spec: &'a PartSpec,
         left: &mut LeftRooms,
-    ) -> Result<Seat<'a>, NoMemory>
+    ) -> Result<SimulatedPart<'a>, NoMemory>
         requires { IsValidPart spec.now }
         ensures { IfOk result (λ seat. seat ≡ opening_part spec.now) }
     {
@@ -62,7 +62,7 @@ impl<'a> Seat<'a> {
         let coming = spec.arrivals.as_slice();
         let has_recovery = part.next_recovery().is_some();
         let has_arrival = may_arrive(&part, coming);
-        Ok(Seat {
+        Ok(SimulatedPart {
             part,
             coming,
             has_recovery,
@@ -77,7 +77,7 @@ impl<'a> Seat<'a> {
         &self.part
     }
 
-    /// What the part ends in, as it stands now.
+    /// The final state of the part, if it ends now.
     pub fn end(&self, alloc: Global) -> Result<PartEnd, NoMemory>
         ensures { IfOk result (λ end. end ≡ end_of_seat self.now) }
     {
@@ -93,14 +93,14 @@ impl<'a> Seat<'a> {
         self.part.can_invoke(thread)
     }
 
-    /// The next step of the thread's open call, where it may be taken.
+    /// The next step of the thread's open call, if it may be taken.
     pub fn going_on(&self, thread: u8) -> Option<Step>
         ensures { result ≡ next_for self.now.run.state thread }
     {
         self.part.next_for(thread)
     }
 
-    /// The next step of the boot or of a recovery, where it may be taken.
+    /// The next step of the boot or of a recovery, if it may be taken.
     pub fn recovery(&self) -> Option<Step>
         ensures { result ≡ next_recovery self.now.run.state }
     {
@@ -114,14 +114,14 @@ impl<'a> Seat<'a> {
         self.has_recovery
     }
 
-    /// Whether a frame is left and may arrive now.
+    /// Whether a frame remains and may arrive now.
     pub fn has_arrival(&self) -> bool
         ensures { result ≡ is_some (arrival self.now.run self.now.coming) }
     {
         self.has_arrival
     }
 
-    /// The arrival of the next frame, where one is left and may arrive now.
+    /// The arrival of the next frame, if one remains and may arrive now.
     #[tactic(auto, unfolding(part_defs::specs::Steps::enabled))]
     pub fn arrival(&self, alloc: Global) -> Result<Option<Step>, NoMemory>
         ensures { IfOk result (λ step. step ≡ arrival self.now.run self.now.coming) }
@@ -136,7 +136,7 @@ impl<'a> Seat<'a> {
         Ok(Some(Step::Arrive { frame }))
     }
 
-    /// Takes a step that may be taken now. An arrival is the next frame's.
+    /// Takes a step that may be taken now. An arrival brings the next frame.
     pub fn take(&mut self, step: Step) -> Result<(), NoMemory>
         requires { enabled self.old.run.state step ≡ true }
         ensures ok { OnOk result (self.new ≡ part_after step self.old) }
@@ -155,13 +155,14 @@ impl<'a> Seat<'a> {
     /// The newest event.
     pub fn newest(&self) -> &Event
         requires { 0 < length self.now.run.journal }
-        ensures { slice_get self.now.run.journal (length self.now.run.journal - 1) ≡ Some result.now }
+        ensures { slice_get self.now.run.journal (length self.now.run.journal - 1)
+            ≡ Some result.now }
     {
         let journal = self.part.journal();
         journal.get(journal.len() - 1)
     }
 
-    /// Whether a step of the part is its burst of a number.
+    /// Whether a step of the part is its burst `number`.
     #[tactic(auto, using(crate::proofs::Seeking::burst_numbered, crate::proofs::Seeking::none_numbered))]
     pub fn is_burst(&self, step: &Step, number: u32) -> bool
         ensures { result ≡ is_burst number (event_of self.now.run.state step.now) }
@@ -172,7 +173,7 @@ impl<'a> Seat<'a> {
         }
     }
 
-    /// Takes a step that may be taken now, as the part's last one: the domain as it stood before, and the step's event.
+    /// Takes a step that may be taken now, as the part's last one. Returns the domain before it, and the step's event.
     pub fn take_last(&mut self, alloc: Global, step: Step) -> Result<FoundBurst, NoMemory>
         requires { enabled self.old.run.state step ≡ true }
         ensures { IfOk result (λ found. shown_burst found ≡ shown_step self.old.run.state step) }
@@ -192,10 +193,10 @@ impl<'a> Seat<'a> {
         Monitor::of_events(alloc, spec.class, spec.blocks, events)
     }
 
-    /// The part's monitor, which lacks the newest event, sees it. Tells whether the part has broken a clause. After
-    /// `NoMemory` the monitor is of no use.
+    /// Shows the part's monitor the newest event, which it has not seen. Returns whether the part has broken a clause.
+    /// After `NoMemory` the monitor is useless.
     pub fn judge_newest(&self, monitor: &mut Monitor) -> Result<bool, NoMemory>
-        requires { IsOneBehind self.now monitor.old }
+        requires { IsOneAfter self.now monitor.old }
         ensures seen { OnOk result (HasSeen self.now monitor.new) }
         ensures broken { IfOk result (λ broken. broken ≡ is_some (first_break_of self.now)) }
     {
@@ -203,7 +204,7 @@ impl<'a> Seat<'a> {
         Ok(monitor.first_break().is_some())
     }
 
-    /// The journal. What else the part leaves is kept.
+    /// The journal. The part leaves its other memory in `left`.
     pub fn into_journal(self, left: &mut LeftRooms) -> Journal
         ensures { result.list ≡ self.entry.run.journal }
     {
@@ -213,7 +214,7 @@ impl<'a> Seat<'a> {
     }
 }
 
-/// Whether a frame is left and may arrive now.
+/// Whether a frame remains and may arrive now.
 #[tactic(auto, unfolding(part_defs::specs::Steps::enabled))]
 fn may_arrive(part: &Part, coming: &[Words]) -> bool
     ensures { result ≡ is_some (arrival part.now coming.now) }
@@ -224,7 +225,7 @@ fn may_arrive(part: &Part, coming: &[Words]) -> bool
     }
 }
 
-/// The frames that are left after a step.
+/// The frames that remain after a step.
 fn frames_after<'a>(step: &Step, coming: &'a [Words]) -> &'a [Words]
     ensures { result.now ≡ coming_after step.now coming.now }
 {

@@ -1,4 +1,4 @@
-//! A run as it stands: its schedule, its parts and its threads.
+//! A run in progress: its schedule, its parts and its threads.
 
 ghost use Rattle.std.specs.Prelude.{◌≡◌, ◌≤◌, ◌<◌, false, All, IfOk, IfSome, OnOk, length, map, slice_get};
 ghost use Rattle.run_defs.specs.Schedules.{picked, round};
@@ -8,19 +8,19 @@ ghost use Rattle.run_defs.specs.Simulation.{thread_after};
 ghost use Rattle.nook_data.specs.Valid.{IsValidPart, IsValidScenario};
 ghost use Rattle.sim_run.specs.Able.{AreAble, AreAbleUpTo, concerns};
 ghost use Rattle.sim_run.specs.Actors.{has_step};
-ghost use Rattle.sim_run.specs.Advanced.{IsAdvanced, IsPick, IsSteppedSeat, IsTaken, standing};
+ghost use Rattle.sim_run.specs.Advanced.{IsAdvanced, IsPick, IsSteppedSeat, IsTaken, state_at};
 ghost use Rattle.sim_run.specs.Bursts.{IsFoundIn, is_burst_at};
 ghost use Rattle.sim_run.specs.Ends.{ends_of};
 ghost use Rattle.sim_run.specs.Published.{HearsChoice, HearsStep, made_of};
 ghost use Rattle.request_taps.specs.Bus.{seen};
 ghost use Rattle.sim_run.specs.Reached.{IsOpenChoice, MayTake};
-ghost use Rattle.sim_run.specs.Watched.{HasSeenAt, HaveSeen, IsOneBehindAt, has_broken_at};
-ghost use Rattle.run_ends.specs.Journals.{events_in};
+ghost use Rattle.sim_run.specs.Watched.{HasSeenAt, HaveSeen, IsOneAfterAt, has_broken_at};
+ghost use Rattle.run_results.specs.Journals.{events_in};
 
 use crate::actors::{able_threads, choice_of, list_ready, next_ready};
 use crate::chosen::Chosen;
 use crate::script::Script;
-use crate::seat::Seat;
+use crate::seat::SimulatedPart;
 use crate::whole_run::FoundBurst;
 use contract_monitor::Monitor;
 use nook_data::calls::AnswerTable;
@@ -32,9 +32,9 @@ use nook_data::steps::{Event, Step};
 use nook_io::listeners::TapTotals;
 use nook_io::outside::Listener;
 use part_core::LeftRooms;
-use report_text::{Journals, PartEnds, Run};
 use request_taps::Bus;
 use run_ends::WholeRun;
+use run_results::{Journals, PartEnds, Run};
 use schedule::Schedule;
 use std::alloc::Global;
 use std::marker::Model;
@@ -44,14 +44,14 @@ mod packed;
 
 pub use packed::PackedSimulation;
 
-/// A run as it stands.
+/// A run in progress.
 #[derive(Drop)]
 pub struct Simulating<'a> {
     alloc: Global,
     schedule: Schedule,
-    seats: Vec<Seat<'a>>,
+    seats: Vec<SimulatedPart<'a>>,
     threads: Vec<Script<'a>>,
-    /// Whether each thread has a step; none where that is to be found anew.
+    /// Whether each thread has a step; none if that must be found again.
     able: Option<Vec<bool>>,
     /// Room for the numbers of the actors that have a step.
     ready: Vec<u16>,
@@ -72,7 +72,7 @@ impl<'a> Model for Simulating<'a> {
 }
 
 impl<'a> Simulating<'a> {
-    /// The run of a valid scenario before its first step. Its parts take up what those of earlier runs left.
+    /// The run of a valid scenario before its first step. Its parts reuse the memory that earlier runs left.
     #[tactic(auto, unfolding(run_defs::specs::Simulation::begins))]
     pub fn new(
         alloc: Global,
@@ -95,11 +95,12 @@ impl<'a> Simulating<'a> {
         })
     }
 
-    /// Takes the step that the schedule picks, and tells whether any actor had one. The taps have then heard its event.
-    /// After `NoMemory` they have heard the event that it makes, or nothing.
+    /// Takes the step that the schedule picks, and returns whether any actor had one. The taps have then heard its
+    /// event. After `NoMemory` they have heard its event, or nothing.
     pub fn advance<L: Listener>(&mut self, taps: &mut Bus<L>) -> Result<bool, NoMemory>
         ensures advanced { IfOk result (λ some. IsAdvanced self.old some self.new) }
-        ensures heard { HearsStep self.old result (map (seen L.listening) taps.old) (map (seen L.listening) taps.new) }
+        ensures heard { HearsStep self.old result (map (seen L.listening) taps.old)
+            (map (seen L.listening) taps.new) }
     {
         match self.choose()? {
             Some(chosen) => {
@@ -110,7 +111,7 @@ impl<'a> Simulating<'a> {
         }
     }
 
-    /// The choice that the schedule picks, where any actor has a step. Its step is not taken.
+    /// The choice that the schedule picks, if any actor has a step. The step is not taken.
     pub fn choose(&mut self) -> Result<Option<Chosen>, NoMemory>
         ensures picked { IfOk result (λ choice. IsPick self.old choice self.new) }
         ensures parts { OnOk result (self.new.parts ≡ self.old.parts) }
@@ -133,7 +134,8 @@ impl<'a> Simulating<'a> {
     pub fn take<L: Listener>(&mut self, taps: &mut Bus<L>, chosen: Chosen) -> Result<(), NoMemory>
         requires { IsOpenChoice self.old.parts chosen }
         ensures taken { OnOk result
-            (self.new ≡ stepped_by self.old self.old.order chosen (slice_get self.old.parts chosen.part)) }
+            (self.new ≡ stepped_by self.old self.old.order chosen
+            (slice_get self.old.parts chosen.part)) }
         ensures heard { HearsChoice (made_of chosen (slice_get self.old.parts chosen.part)) result
             (map (seen L.listening) taps.old) (map (seen L.listening) taps.new) }
     {
@@ -150,56 +152,59 @@ impl<'a> Simulating<'a> {
         Ok(())
     }
 
-    /// Whether a choice is the burst of a number of the part at a place.
-    pub fn is_burst(&self, chosen: &Chosen, place: u32, number: u32) -> bool
-        ensures { result ≡ is_burst_at place number chosen.now (slice_get self.now.parts chosen.now.part) }
+    /// Whether a choice is burst `number` of part `index`.
+    pub fn is_burst(&self, chosen: &Chosen, index: u32, number: u32) -> bool
+        ensures { result ≡ is_burst_at index number chosen.now
+            (slice_get self.now.parts chosen.now.part) }
     {
         match self.seats.get(chosen.part() as usize) {
-            Some(seat) => chosen.part() == place && seat.is_burst(chosen.step(), number),
+            Some(seat) => chosen.part() == index && seat.is_burst(chosen.step(), number),
             None => false,
         }
     }
 
-    /// A monitor for each part, which has seen its journal.
+    /// A monitor for each part that has seen the part's journal.
     pub fn monitors(&self) -> Result<Vec<Monitor>, NoMemory>
         ensures { IfOk result (λ monitors. HaveSeen self.now.parts monitors.items) }
     {
         make_monitors(self.alloc, &self.seats)
     }
 
-    /// A monitor of the part at a place that has seen its journal.
-    pub fn monitor(&self, place: u32) -> Result<Monitor, NoMemory>
-        requires { place < length self.now.parts }
-        ensures { IfOk result (HasSeenAt (slice_get self.now.parts place)) }
+    /// A monitor of part `index` that has seen its journal.
+    pub fn monitor(&self, index: u32) -> Result<Monitor, NoMemory>
+        requires { index < length self.now.parts }
+        ensures { IfOk result (HasSeenAt (slice_get self.now.parts index)) }
     {
-        self.seats[place as usize].monitor(self.alloc)
+        self.seats[index as usize].monitor(self.alloc)
     }
 
-    /// The monitor of the part at a place, which lacks the part's newest event, sees it. Tells whether the part has
-    /// broken a clause. After `NoMemory` the monitor is of no use.
-    pub fn judge_newest(&self, place: u32, monitor: &mut Monitor) -> Result<bool, NoMemory>
-        requires { IsOneBehindAt (slice_get self.now.parts place) monitor.old }
-        ensures seen { OnOk result (HasSeenAt (slice_get self.now.parts place) monitor.new) }
-        ensures broken { IfOk result (λ broken. broken ≡ has_broken_at (slice_get self.now.parts place)) }
+    /// Shows the monitor of part `index` the part's newest event, which it has not seen. Returns whether the part has
+    /// broken a clause. After `NoMemory` the monitor is useless.
+    pub fn judge_newest(&self, index: u32, monitor: &mut Monitor) -> Result<bool, NoMemory>
+        requires { IsOneAfterAt (slice_get self.now.parts index) monitor.old }
+        ensures seen { OnOk result (HasSeenAt (slice_get self.now.parts index) monitor.new) }
+        ensures broken { IfOk result
+            (λ broken. broken ≡ has_broken_at (slice_get self.now.parts index)) }
     {
-        self.seats[place as usize].judge_newest(monitor)
+        self.seats[index as usize].judge_newest(monitor)
     }
 
-    /// Takes a choice that may be taken, as the last of the run: the domain of its part as it stood before, and its
-    /// event. The rest of the run is dropped.
+    /// Takes a choice that may be taken, as the last of the run. Returns the domain of its part before the step, and
+    /// the step's event. The rest of the run is dropped.
     pub fn into_last(self, chosen: Chosen) -> Result<FoundBurst, NoMemory>
         requires { IsOpenChoice self.parts chosen }
         ensures { IfOk result (IsFoundIn (slice_get self.entry.parts chosen.part) chosen.step) }
     {
         let mut seats = self.seats;
-        let place = chosen.part() as usize;
-        seats[place].take_last(self.alloc, chosen.into_step())
+        let index = chosen.part() as usize;
+        seats[index].take_last(self.alloc, chosen.into_step())
     }
 
-    /// What the run left: one journal a part and what the part ends in, each thread's answers, and the totals of its
-    /// taps, which are given. What else the parts leave is kept.
+    /// The result of the run: each part's journal and final state, each thread's answers, and the given totals of its
+    /// taps. The parts leave their other memory in `left`.
     pub fn into_run(self, taps: TapTotals, left: &mut LeftRooms) -> Result<WholeRun, NoMemory>
-        ensures journals { IfOk result (λ whole. map events_in whole.run.journals ≡ journals_of self.entry) }
+        ensures journals { IfOk result
+            (λ whole. map events_in whole.run.journals ≡ journals_of self.entry) }
         ensures answers { IfOk result (λ whole. whole.run.answers ≡ answer_table self.entry) }
         ensures taps { IfOk result (λ whole. whole.run.taps ≡ taps) }
         ensures ends { IfOk result (λ whole. whole.ends ≡ ends_of self.entry.parts) }
@@ -224,12 +229,12 @@ impl<'a> Simulating<'a> {
     }
 }
 
-/// Whether each thread has a step, as it was kept, or found anew where it was not.
+/// Whether each thread has a step, as stored, or found again if it was not stored.
 fn kept_or_found(
     alloc: Global,
     kept: Option<Vec<bool>>,
     threads: &[Script],
-    seats: &[Seat],
+    seats: &[SimulatedPart],
 ) -> Result<Vec<bool>, NoMemory>
     requires kept { IfSome kept (λ able. AreAble seats.now threads.now able.items) }
     requires threads { length threads.now ≤ MOST_THREADS }
@@ -241,8 +246,8 @@ fn kept_or_found(
     }
 }
 
-/// What each part ends in.
-fn take_ends(alloc: Global, seats: &[Seat]) -> Result<PartEnds, NoMemory>
+/// The final state of each part.
+fn take_ends(alloc: Global, seats: &[SimulatedPart]) -> Result<PartEnds, NoMemory>
     ensures { IfOk result (λ made. made ≡ ends_of seats.now) }
 {
     let mut made = Items::new(alloc);
@@ -252,8 +257,8 @@ fn take_ends(alloc: Global, seats: &[Seat]) -> Result<PartEnds, NoMemory>
     Ok(made)
 }
 
-/// A monitor for each part, which has seen its journal.
-fn make_monitors(alloc: Global, seats: &[Seat]) -> Result<Vec<Monitor>, NoMemory>
+/// A monitor for each part that has seen the part's journal.
+fn make_monitors(alloc: Global, seats: &[SimulatedPart]) -> Result<Vec<Monitor>, NoMemory>
     ensures { IfOk result (λ made. HaveSeen seats.now made.items) }
 {
     let mut made = Vec::with_capacity(alloc, seats.len())?;
@@ -263,13 +268,13 @@ fn make_monitors(alloc: Global, seats: &[Seat]) -> Result<Vec<Monitor>, NoMemory
     Ok(made)
 }
 
-/// The choice that the schedule picks, where any actor has a step. `ready` becomes the actors that have one, where the
-/// schedule looks at them all.
+/// The choice that the schedule picks, if any actor has a step. `ready` becomes the list of actors that have one, if
+/// the schedule looks at them all.
 fn pick(
     alloc: Global,
     schedule: &mut Schedule,
     threads: &[Script],
-    seats: &[Seat],
+    seats: &[SimulatedPart],
     able: &[bool],
     ready: &mut Vec<u16>,
 ) -> Result<Option<Chosen>, NoMemory>
@@ -277,7 +282,8 @@ fn pick(
     requires seats { length seats.now ≤ MOST_PARTS }
     requires able { AreAble seats.now threads.now able.now }
     ensures { IfOk result (λ choice. IsPick
-        (standing schedule.old seats.now threads.now) choice (standing schedule.new seats.now threads.now)) }
+        (state_at schedule.old seats.now threads.now) choice
+        (state_at schedule.new seats.now threads.now)) }
 {
     if let Some(cursor) = schedule.cursor() {
         return pick_next(alloc, schedule, cursor, threads, seats, able);
@@ -286,17 +292,17 @@ fn pick(
     if ready.is_empty() {
         return Ok(None);
     }
-    let place = pick_place(schedule, ready);
-    choice_of(alloc, ready[place], threads, seats)
+    let index = pick_position(schedule, ready);
+    choice_of(alloc, ready[index], threads, seats)
 }
 
-/// The choice that a round robin picks, where any actor has a step: of the first actor that has one from the cursor on.
+/// The choice that a round robin picks, if any actor has a step: that of the first actor with one from the cursor on.
 fn pick_next(
     alloc: Global,
     schedule: &mut Schedule,
     cursor: u32,
     threads: &[Script],
-    seats: &[Seat],
+    seats: &[SimulatedPart],
     able: &[bool],
 ) -> Result<Option<Chosen>, NoMemory>
     requires round { schedule.old ≡ round cursor }
@@ -304,7 +310,8 @@ fn pick_next(
     requires seats { length seats.now ≤ MOST_PARTS }
     requires able { AreAble seats.now threads.now able.now }
     ensures { IfOk result (λ choice. IsPick
-        (standing schedule.old seats.now threads.now) choice (standing schedule.new seats.now threads.now)) }
+        (state_at schedule.old seats.now threads.now) choice
+        (state_at schedule.new seats.now threads.now)) }
 {
     let Some(actor) = next_ready(cursor, able, seats) else {
         return Ok(None);
@@ -313,11 +320,11 @@ fn pick_next(
     choice_of(alloc, actor, threads, seats)
 }
 
-/// The place in a list that the schedule picks. There is one.
-#[tactic(auto, using(crate::proofs::Advancing::place_within))]
-fn pick_place(schedule: &mut Schedule, actors: &[u16]) -> usize
+/// The index that the schedule picks in a list that is not empty.
+#[tactic(auto, using(crate::proofs::Advancing::position_within))]
+fn pick_position(schedule: &mut Schedule, actors: &[u16]) -> usize
     requires { 0 < length actors.now }
-    ensures place { result ≡ (picked schedule.old actors.now).place }
+    ensures index { result ≡ (picked schedule.old actors.now).index }
     ensures order { schedule.new ≡ (picked schedule.old actors.now).order }
     ensures within { result < length actors.now }
 {
@@ -325,10 +332,10 @@ fn pick_place(schedule: &mut Schedule, actors: &[u16]) -> usize
 }
 
 /// Takes a choice that may be taken: its part makes the event, the taps hear it, and each thread notes it.
-#[tactic(auto, unfolding(request_taps::specs::Bus::told_all))]
+#[tactic(auto, unfolding(request_taps::specs::Bus::after_hearing_all))]
 fn take<L: Listener>(
     alloc: Global,
-    seats: &mut [Seat],
+    seats: &mut [SimulatedPart],
     threads: &mut [Script],
     able: &mut [bool],
     taps: &mut Bus<L>,
@@ -340,14 +347,16 @@ fn take<L: Listener>(
     requires able { AreAble seats.old threads.old able.old }
     ensures heard { HearsChoice (made_of chosen (slice_get seats.old chosen.part)) result
         (map (seen L.listening) taps.old) (map (seen L.listening) taps.new) }
-    ensures taken { OnOk result (IsTaken (slice_get seats.old chosen.part) chosen seats.old threads.old seats.new threads.new) }
+    ensures taken { OnOk result
+        (IsTaken (slice_get seats.old chosen.part) chosen seats.old threads.old seats.new
+        threads.new) }
     ensures able { OnOk result (AreAble seats.new threads.new able.new) }
 {
     let part = chosen.part();
-    let place = part as usize;
-    take_at(seats, place, chosen.into_step())?;
+    let index = part as usize;
+    take_at(seats, index, chosen.into_step())?;
     let seats = &*seats;
-    let event = seats[place].newest();
+    let event = seats[index].newest();
     taps.publish(part as u8, event);
     hear_all(alloc, threads, able, seats, part, event)
 }
@@ -357,13 +366,13 @@ fn make_seats<'a>(
     alloc: Global,
     specs: &'a [PartSpec],
     left: &mut LeftRooms,
-) -> Result<Vec<Seat<'a>>, NoMemory>
+) -> Result<Vec<SimulatedPart<'a>>, NoMemory>
     requires { All IsValidPart specs.now }
     ensures { IfOk result (λ made. made.items ≡ map opening_part specs.now) }
 {
     let mut made = Vec::with_capacity(alloc, specs.len())?;
     for spec in specs {
-        made.push(Seat::new(alloc, spec, left)?)?;
+        made.push(SimulatedPart::new(alloc, spec, left)?)?;
     }
     Ok(made)
 }
@@ -379,20 +388,21 @@ fn make_threads<'a>(alloc: Global, specs: &'a [ThreadSpec]) -> Result<Vec<Script
     Ok(made)
 }
 
-/// The part at a place takes a step that it may take.
-fn take_at(seats: &mut [Seat], place: usize, step: Step) -> Result<(), NoMemory>
-    requires { MayTake (slice_get seats.old place) step }
-    ensures { OnOk result (IsSteppedSeat (slice_get seats.old place) seats.old place step seats.new) }
+/// Part `index` takes a step that it may take.
+fn take_at(seats: &mut [SimulatedPart], index: usize, step: Step) -> Result<(), NoMemory>
+    requires { MayTake (slice_get seats.old index) step }
+    ensures { OnOk result
+        (IsSteppedSeat (slice_get seats.old index) seats.old index step seats.new) }
 {
-    seats[place].take(step)
+    seats[index].take(step)
 }
 
-/// Each thread notes an event of a part, and `able` tells of those that it concerns anew whether they have a step.
+/// Each thread notes an event of a part. `able` is updated for the threads that it concerns.
 fn hear_all(
     alloc: Global,
     threads: &mut [Script],
     able: &mut [bool],
-    seats: &[Seat],
+    seats: &[SimulatedPart],
     part: u32,
     event: &Event,
 ) -> Result<(), NoMemory>
@@ -401,12 +411,12 @@ fn hear_all(
     ensures threads { OnOk result (threads.new ≡ threads_after 0 part event.now threads.old) }
     ensures able { OnOk result (AreAble seats.now threads.new able.new) }
 {
-    for place in 0..threads.len() {
+    for index in 0..threads.len() {
         hear(
             alloc,
-            place as u8,
-            &mut threads[place],
-            &mut able[place],
+            index as u8,
+            &mut threads[index],
+            &mut able[index],
             seats,
             part,
             event,
@@ -415,20 +425,22 @@ fn hear_all(
     Ok(())
 }
 
-/// A thread notes an event of a part, where that concerns it; `able` tells whether it has a step.
-// Most events concern one thread of many, and so most of these calls only look.
+/// A thread notes an event of a part that concerns it; `able` says whether the thread has a step.
+// Most events concern one thread of many, so most of these calls only look.
 #[inline(always)]
 fn hear(
     alloc: Global,
     number: u8,
     thread: &mut Script,
     able: &mut bool,
-    seats: &[Seat],
+    seats: &[SimulatedPart],
     part: u32,
     event: &Event,
 ) -> Result<(), NoMemory>
-    requires { concerns number part event.now thread.old ≡ false → able.old ≡ has_step number seats.now thread.old }
-    ensures thread { OnOk result (thread.new ≡ thread_after part event.now (started number part event.now thread.old)) }
+    requires { concerns number part event.now thread.old ≡ false
+        → able.old ≡ has_step number seats.now thread.old }
+    ensures thread { OnOk result
+        (thread.new ≡ thread_after part event.now (started number part event.now thread.old)) }
     ensures able { OnOk result (able.new ≡ has_step number seats.now thread.new) }
 {
     if thread.is_concerned(number, part, event) {
@@ -441,7 +453,7 @@ fn hear(
 /// Each part's journal.
 fn take_journals(
     alloc: Global,
-    seats: Vec<Seat>,
+    seats: Vec<SimulatedPart>,
     left: &mut LeftRooms,
 ) -> Result<Journals, NoMemory>
     ensures { IfOk result (λ made. map events_in made ≡ map journal_of seats.entry.items) }

@@ -1,4 +1,4 @@
-//! Threads that take turns: the test of `turn_lock`, in a crate of its own.
+//! Threads that take turns: the test of `turn_lock`, in a separate crate.
 #![tactic(auto)]
 
 #[cfg(test)]

@@ -1,4 +1,4 @@
-//! What no clause says: that the calls succeed, that threads get their turns, and that a list grows by all commits.
+//! Tests of what no clause says: the calls succeed, threads get their turns, and a list grows by all commits.
 ghost use Rattle.std.specs.Prelude.{◌≡◌, false};
 ghost use Rattle.turn_lock.specs.Seats.{seat_view, IsSeatOf};
 
@@ -52,15 +52,15 @@ fn commit<R: Wait + Abort>(rt: &R, turn: &Turn<Numbers>, seat: &mut TurnSeat<Num
     turn.commit_and_give(seat, value);
 }
 
-// Looks until there are this many entries, and says whether there were.
-fn sees<R: Clock>(rt: &R, turn: &Turn<Numbers>, seat: &mut TurnSeat<Numbers>, wanted: u64) -> bool
+// Looks until there are this many entries, and returns whether there were.
+fn sees<R: Clock>(rt: &R, turn: &Turn<Numbers>, seat: &mut TurnSeat<Numbers>, expected: u64) -> bool
     requires seat { IsSeatOf turn.now seat.old }
     requires free { (seat_view seat.old).has ≡ false }
     ensures seat { IsSeatOf turn.now seat.new }
     ensures free { (seat_view seat.new).has ≡ false }
 {
     for _ in 0..LOOKS {
-        if turn.look(seat) >= wanted {
+        if turn.look(seat) >= expected {
             return true;
         }
         thread::sleep(rt, Duration::from_millis(1));
@@ -68,7 +68,7 @@ fn sees<R: Clock>(rt: &R, turn: &Turn<Numbers>, seat: &mut TurnSeat<Numbers>, wa
     false
 }
 
-// Commits `me` once there are `me` entries, then once there are two more, and so on, and says whether it saw each of them come.
+// Commits `me` once there are `me` entries, then again after each two more. Returns whether it saw all of these.
 fn alternate<R: Wait + Abort + Clock>(
     rt: &R,
     turn: &Turn<Numbers>,

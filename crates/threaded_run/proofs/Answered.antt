@@ -9,7 +9,7 @@ use Rattle.nook_data.specs.declared.scenario.ThreadSpec.{ThreadSpec}
 use Rattle.nook_data.specs.Valid.{IsValidScenario}
 use Rattle.std.proofs.lemmas.List.{length-map}
 use Rattle.threaded_run.specs.declared.running.Unheard.{Unheard}
-use Rattle.run_ends.specs.Journals.{events_in}
+use Rattle.run_results.specs.Journals.{events_in}
 use Rattle.threaded_run.proofs.Leaving.{count_left}
 use Rattle.threaded_run.specs.Leaving.{answers_in}
 use Rattle.threaded_run.specs.Threaded.{AreAnswered, AreServed, HaveReceipts, IsThreaded, answers_by}
@@ -36,7 +36,7 @@ pub threaded_answered : (scenario : Scenario) (journals : List (List Event)) (an
     → AreAnswered scenario answers
 threaded_answered scenario journals answers h = parts_served journals 0 scenario.threads answers h.served
 
--- up to eight journals
+-- there are at most eight journals
 pub few_journals : (scenario : Scenario) (left : Unheard) → IsValidScenario scenario → IsWholeRun scenario left → length left.journals ≤ 8
 few_journals scenario left valid h =
     let same : length (map events_in left.journals) ≡ length scenario.parts = count_left scenario.parts (map events_in left.journals) h.runs in

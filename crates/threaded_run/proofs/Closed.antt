@@ -1,4 +1,4 @@
--- Parts that take the steps that they have left behind their desks' only seats, and desks that are closed one after another.
+-- Parts take their remaining steps after all that their desks' only seats saw, and the desks are closed one by one.
 use Rattle.std.proofs.Common.{◌≡◌, ℕ, zero, suc, ◌+◌, ◌<◌, ◌≤◌, Some, None, List, [], ◌∷◌, ◌++◌, length, map, refl, sym, ap, ◌∙◌, subst, arith, append_assoc, append-nil, length-append, slice_get, slice_index_or, get_or, take, add-one}
 use Rattle.std.proofs.Math.Seq.{take-suc}
 use Rattle.std.proofs.lemmas.List.Elements.{All-contains}
@@ -10,50 +10,50 @@ use Rattle.desk_like.specs.Desks.{DeskView, IsAlone, IsAt, IsOther, Waits}
 use Rattle.desk_like.specs.Stamps.{IsStampedFrom}
 use Rattle.nook_data.specs.declared.steps.Event.{Event}
 use Rattle.nook_data.specs.declared.scenario.PartSpec.{PartSpec}
-use Rattle.nook_data.specs.Places.{at_number}
+use Rattle.nook_data.specs.Numbered.{at_number}
 use Rattle.nook_data.specs.Views.Room.{Kept}
 use Rattle.part_defs.specs.Runs.{IsRun, PartRun, next_any, state_of}
 use Rattle.part_defs.specs.State.{PartState}
-use Rattle.part_laws.proofs.Places.{some_same}
-use Rattle.report_text.specs.declared.whole_report.PartEnd.{PartEnd}
-use Rattle.report_text.specs.Whole.{ShowsState}
+use Rattle.part_laws.proofs.Indices.{some_same}
+use Rattle.run_results.specs.declared.report.PartEnd.{PartEnd}
+use Rattle.run_results.specs.Reports.{ShowsState}
 use Rattle.shares.specs.Shares.{IsWhole}
 use Rattle.run_ends.specs.Ends.{end_of, objects_in}
-use Rattle.threaded_run.proofs.Counted.{place_there}
+use Rattle.threaded_run.proofs.Counted.{position_there}
 use Rattle.part_server.specs.Turns.{opening_view}
 use Rattle.threaded_run.specs.Leaving.{AreAlone, AreLeft, AreNew, AreStampedFrom, GoesOn, IsClosed, IsLeft}
 
 -- ---- the only seat of a desk that settles
 
-all_by_place : (P : Event → Type 0) (events : List Event) → ((i : ℕ) (e : Event) → slice_get events i ≡ Some e → P e) → AllByRecursion P events
-all_by_place P [] h = tt
-all_by_place P (e ∷ events) h = (h 0 e refl, all_by_place P events (λ i x at. h (suc i) x at))
+all_by_position : (P : Event → Type 0) (events : List Event) → ((i : ℕ) (e : Event) → slice_get events i ≡ Some e → P e) → AllByRecursion P events
+all_by_position P [] h = tt
+all_by_position P (e ∷ events) h = (h 0 e refl, all_by_position P events (λ i x at. h (suc i) x at))
 
-get_behind : (seen rest : List Event) (i : ℕ) → slice_get (seen ++ rest) (length seen + i) ≡ slice_get rest i
-get_behind [] rest i = ap (slice_get rest) (zero_plus i)
+get_after : (seen rest : List Event) (i : ℕ) → slice_get (seen ++ rest) (length seen + i) ≡ slice_get rest i
+get_after [] rest i = ap (slice_get rest) (zero_plus i)
   where
     zero_plus : (n : ℕ) → 0 + n ≡ n
     zero_plus n = omega arith
-get_behind (e ∷ seen) rest i = ap (slice_get (e ∷ seen ++ rest)) (next (length seen) i) ∙ get_behind seen rest i
+get_after (e ∷ seen) rest i = ap (slice_get (e ∷ seen ++ rest)) (next (length seen) i) ∙ get_after seen rest i
   where
     next : (n i : ℕ) → suc n + i ≡ suc (n + i)
     next n i = omega arith
 
--- what is seen more is neither an invocation nor an arrival
+-- the new events are neither invocations nor arrivals
 goes_on : (old new : DeskView) → IsAlone old → Waits old new → GoesOn old.seen new.seen
-goes_on old new alone w = record { rest = w.adds.seen.0; begins = w.adds.seen.1; others = all_by_place IsOther w.adds.seen.0 by_place }
+goes_on old new alone w = record { rest = w.adds.seen.0; begins = w.adds.seen.1; others = all_by_position IsOther w.adds.seen.0 by_position }
   where
-    by_place : (i : ℕ) (x : Event) → slice_get w.adds.seen.0 i ≡ Some x → IsOther x
-    by_place i x there =
-        let place : ℕ = suc (length old.seen + i) in
-        let found : at_number place new.seen ≡ Some x = ap (λ (l : List Event). at_number place l) (sym w.adds.seen.1) ∙ get_behind old.seen w.adds.seen.0 i ∙ there in
-        let high : place ≤ length new.seen = place_there new.seen place x found in
-        let other : IsAt new.seen place IsOther = All-contains (λ (q : ℕ). IsAt new.seen q IsOther) w.places place w.others (w.adds.own alone place (omega arith) high) in
+    by_position : (i : ℕ) (x : Event) → slice_get w.adds.seen.0 i ≡ Some x → IsOther x
+    by_position i x there =
+        let number : ℕ = suc (length old.seen + i) in
+        let found : at_number number new.seen ≡ Some x = ap (λ (l : List Event). at_number number l) (sym w.adds.seen.1) ∙ get_after old.seen w.adds.seen.0 i ∙ there in
+        let high : number ≤ length new.seen = position_there new.seen number x found in
+        let other : IsAt new.seen number IsOther = All-contains (λ (q : ℕ). IsAt new.seen q IsOther) w.numbers number w.others (w.adds.own alone number (omega arith) high) in
         subst IsOther (some_same other.event x (sym other.there ∙ found)) other.is
 
-pub closed_behind : (spec : PartSpec) (old new : DeskView) (part : PartRun) → IsAlone old → Waits old new → next_any (state_of spec new.seen) ≡ None
+pub closed_following : (spec : PartSpec) (old new : DeskView) (part : PartRun) → IsAlone old → Waits old new → next_any (state_of spec new.seen) ≡ None
     → part.state.spec ≡ spec → (IsAlone new → part.journal ≡ new.seen) → IsClosed spec old.seen part
-closed_behind spec old new part alone w settled same closed =
+closed_following spec old new part alone w settled same closed =
     let journal : part.journal ≡ new.seen = closed (subst IsWhole (sym w.adds.share) alone) in
     record {
       same = same;
@@ -61,18 +61,18 @@ closed_behind spec old new part alone w settled same closed =
       settled = ap (λ (l : List Event). next_any (state_of spec l)) journal ∙ settled;
     }
 
--- what its journal's stamps begin with
+-- a prefix of a prefix is a prefix
 prefix_of_prefix : {X : Type 0} (a b c : List X) → IsPrefix a b → IsPrefix b c → IsPrefix a c
 prefix_of_prefix a b c p q = (p.0 ++ q.0, sym (append_assoc a p.0 q.0) ∙ ap (λ xs. xs ++ q.0) p.1 ∙ q.1)
 
-pub stamped_behind : (old new : List ℕ) (journal : List Event) → IsPrefix old new → IsStampedFrom new journal → IsStampedFrom old journal
-stamped_behind old new journal p h = record {
+pub stamped_after : (old new : List ℕ) (journal : List Event) → IsPrefix old new → IsStampedFrom new journal → IsStampedFrom old journal
+stamped_after old new journal p h = record {
   stamps = h.stamps;
   begins = prefix_of_prefix old new h.stamps p h.begins;
   stamped = h.stamped;
 }
 
--- ---- what the part leaves
+-- ---- what a part leaves
 
 shows : (spec : PartSpec) (p : PartState) (end : PartEnd) → end ≡ end_of p → p.spec ≡ spec → ShowsState spec p end
 unfolding end_of objects_in
@@ -95,7 +95,7 @@ left_of spec seen part end journal h run state e same = record {
       (subst (λ (p : PartState). ShowsState spec p end) (state ∙ ap (λ (s : PartSpec). state_of s part.journal) h.same) (shows spec part.state end e h.same));
 }
 
--- ---- lists that are worked off
+-- ---- lists that are used up
 
 pub none_left : {X : Type 0} (n : ℕ) (xs : List X) → n ≡ length xs → n ≡ 0 → xs ≡ []
 none_left n [] e z = refl
@@ -105,11 +105,11 @@ front_of : {X : Type 0} (xs rest : List X) → take (length xs) (xs ++ rest) ≡
 front_of [] rest = refl
 front_of (x ∷ xs) rest = ap (λ ys. x ∷ ys) (front_of xs rest)
 
--- a list that was lent whole is what it was changed to
+-- a list that was lent as a whole becomes what it was changed to
 pub lent_whole : {X : Type 0} (n : ℕ) (news rest : List X) → n ≡ length news → take n (news ++ rest) ≡ news
 lent_whole n news rest e = ap (λ (k : ℕ). take k (news ++ rest)) e ∙ front_of news rest
 
--- one desk more, of the next part
+-- one more desk, for the next part
 pub more_specs : {D : Type 0} (spec : D → PartSpec) (i : ℕ) (parts : List PartSpec) (part : PartSpec) (desks all : List D) (desk : D) → i < length parts
     → part ≡ get_or parts i part → map spec desks ≡ take i parts → spec desk ≡ part → all ≡ desks ++ desk ∷ [] → map spec all ≡ take (i + 1) parts
 more_specs spec i parts part desks all desk within is before of a =
@@ -119,19 +119,19 @@ more_specs spec i parts part desks all desk within is before of a =
     ∙ sym (take-suc parts i part within)
     ∙ ap (λ (n : ℕ). take n parts) (sym (add-one i))
 
--- one new seat more
+-- one more new seat
 pub one_more_new : {S : Type 0} (view : S → DeskView) (seats all : List S) (seat : S) → AreNew (map view seats) → view seat ≡ opening_view
     → all ≡ seats ++ seat ∷ [] → AreNew (map view all)
-one_more_new view seats all seat new is a = subst (λ xs. AreNew (map view xs)) (sym a) (behind seats new)
+one_more_new view seats all seat new is a = subst (λ xs. AreNew (map view xs)) (sym a) (rest_after seats new)
   where
-    behind : (xs : List _) → AreNew (map view xs) → AreNew (map view (xs ++ seat ∷ []))
-    behind [] h = (is, tt)
-    behind (x ∷ xs) h = (h.0, behind xs h.1)
+    rest_after : (xs : List _) → AreNew (map view xs) → AreNew (map view (xs ++ seat ∷ []))
+    rest_after [] h = (is, tt)
+    rest_after (x ∷ xs) h = (h.0, rest_after xs h.1)
 
 -- ---- one desk after another
 
 module _ {D S : Type 0} (IsSeat : D → S → Type 0) (spec : D → PartSpec) (view : S → DeskView) where
-  -- these desks are left to close, by these seats, and the parts of the others have left these
+  -- these desks are still to be closed, through these seats; the parts of the others have left these journals and ends
   pub record Remain (specs : List PartSpec) (seens : List (List Event)) (desks : List D) (seats : List S) (journals : List (Kept Event)) (ends : List PartEnd) : Type 0 where
     pub seated : AreSeats IsSeat desks seats
     pub alone : AreAlone (map view seats)
@@ -165,14 +165,14 @@ module _ {D S : Type 0} (IsSeat : D → S → Type 0) (spec : D → PartSpec) (v
     goes_on = λ js es more. rw (append_assoc journals (journal ∷ []) js, append_assoc ends (end ∷ []) es) (h.goes_on (journal ∷ js) (end ∷ es) (left, more));
   }
 
-  -- the first seat is at the first desk
+  -- the first seat belongs to the first desk
   pub seat_of : (specs : List PartSpec) (seens : List (List Event)) (desk : D) (all desks : List D) (seat : S) (both seats : List S)
       (journals : List (Kept Event)) (ends : List PartEnd) → all ≡ desk ∷ desks → both ≡ seat ∷ seats
       → Remain specs seens all both journals ends → IsSeat desk seat
   seat_of specs seens desk all desks seat both seats journals ends d s h =
       next_seat desk desks seat seats (subst (λ x. AreSeats IsSeat x (seat ∷ seats)) d (subst (AreSeats IsSeat all) s h.seated))
 
-  -- and it is alone there
+  -- and it is the only one there
   pub alone_of : (specs : List PartSpec) (seens : List (List Event)) (desks : List D) (seat : S) (both seats : List S)
       (journals : List (Kept Event)) (ends : List PartEnd) → both ≡ seat ∷ seats → Remain specs seens desks both journals ends → IsAlone (view seat)
   alone_of specs seens desks seat both seats journals ends s h = (subst (λ xs. AreAlone (map view xs)) s h.alone).0
@@ -182,7 +182,7 @@ module _ {D S : Type 0} (IsSeat : D → S → Type 0) (spec : D → PartSpec) (v
   none_remain specs seens [] journals ends h = rw (← append-nil journals, ← append-nil ends) (h.goes_on [] [] tt)
   none_remain specs seens (seat ∷ seats) journals ends h = let e : suc (length seats) ≡ 0 = h.seated.0 in absurd (omega arith)
 
-  -- one desk more, and a seat at it
+  -- one more desk, and a seat at it
   more_seats_at : (desks : List D) (seats : List S) (desk : D) (seat : S) → AreSeats IsSeat desks seats → IsSeat desk seat
       → (i : ℕ) (d : D) (s : S) → i < length (desks ++ desk ∷ []) → d ≡ slice_index_or (desks ++ desk ∷ []) i d
       → s ≡ slice_index_or (seats ++ seat ∷ []) i s → IsSeat d s
@@ -216,7 +216,7 @@ module _ {D S : Type 0} (IsSeat : D → S → Type 0) (spec : D → PartSpec) (v
 -- ---- the stamps of one desk's part after another
 
 module _ {S : Type 0} (view : S → DeskView) where
-  -- these seats' desks are left to close, and the journals of the others' parts are stamped
+  -- the desks of these seats are still to be closed, and the journals of the other parts are stamped
   pub record StampsRemain (stamps : List (List ℕ)) (seats : List S) (journals : List (Kept Event)) : Type 0 where
     pub goes_on : (js : List (Kept Event)) → AreStampedFrom (all_stamps (map view seats)) js → AreStampedFrom stamps (journals ++ js)
 

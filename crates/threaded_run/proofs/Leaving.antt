@@ -1,4 +1,4 @@
--- What parts leave, told of each part.
+-- What the parts leave, as facts about each part.
 use Rattle.std.proofs.Common.{◌≡◌, ℕ, zero, suc, Bool, false, List, [], ◌∷◌, ◌++◌, filter, length, map, refl, sym, ap, ◌∙◌, append-nil}
 use Rattle.std.specs.List.{AllByRecursion}
 use Rattle.std.proofs.lemmas.List.Elements.{filter-append}
@@ -9,11 +9,11 @@ use Rattle.nook_data.specs.declared.steps.Event.TheVariants as event
 use Rattle.nook_data.specs.declared.scenario.PartSpec.{PartSpec}
 use Rattle.nook_data.specs.declared.scenario.ThreadSpec.{ThreadSpec}
 use Rattle.nook_data.specs.Views.Room.{Kept}
-use Rattle.report_text.specs.declared.whole_report.PartEnd.{PartEnd}
-use Rattle.report_text.specs.Whole.{HaveEnds}
-use Rattle.run_ends.specs.Journals.{AreRuns, events_in}
+use Rattle.run_results.specs.declared.report.PartEnd.{PartEnd}
+use Rattle.run_results.specs.Reports.{HaveEnds}
+use Rattle.run_results.specs.Journals.{AreRuns, events_in}
 use Rattle.threaded_run.proofs.Growing.{arrivals_grown}
-use Rattle.threaded_run.proofs.Placed.{left_out}
+use Rattle.threaded_run.proofs.Numbered.{left_out}
 use Rattle.threaded_run.specs.Leaving.{AreLeft, GoesOn}
 use Rattle.part_laws.specs.Bound.{is_arrival}
 use Rattle.threaded_run.specs.Others.{HaveNoOthers, is_invocation_by}
@@ -88,31 +88,31 @@ none_pass : (test : Event → Bool) (events : List Event) → ((e : Event) → I
 none_pass test [] fails h = refl
 none_pass test (e ∷ events) fails h = left_out test e events (fails e h.0) ∙ none_pass test events fails h.1
 
--- what goes on behind has no more of such events
+-- the events that continue the journal are none of these
 as_many : (test : Event → Bool) (seen journal : List Event) → ((e : Event) → IsOther e → test e ≡ false) → GoesOn seen journal
     → length (filter test journal) ≡ length (filter test seen)
 as_many test seen journal fails h =
     ap (λ (xs : List Event). length (filter test xs)) (sym h.begins)
     ∙ ap length (filter-append test seen h.rest ∙ ap (λ (xs : List Event). filter test seen ++ xs) (none_pass test h.rest fails h.others) ∙ append-nil (filter test seen))
 
-pub no_others_left : (threads : List ThreadSpec) (place : ℕ) (specs : List PartSpec) (seens : List (List Event)) (journals : List (Kept Event)) (ends : List PartEnd)
-    → AreLeft specs seens journals ends → HaveNoOthers threads place specs seens → HaveNoOthers threads place specs (map events_in journals)
-no_others_left threads place [] [] [] [] h n = tt
-no_others_left threads place [] [] [] (end ∷ ends) h n = absurd h
-no_others_left threads place [] [] (journal ∷ journals) ends h n = absurd h
-no_others_left threads place [] (seen ∷ seens) journals ends h n = absurd h
-no_others_left threads place (spec ∷ specs) [] journals ends h n = absurd h
-no_others_left threads place (spec ∷ specs) (seen ∷ seens) [] ends h n = absurd h
-no_others_left threads place (spec ∷ specs) (seen ∷ seens) (journal ∷ journals) [] h n = absurd h
-no_others_left threads place (spec ∷ specs) (seen ∷ seens) (journal ∷ journals) (end ∷ ends) h n = (
+pub no_others_left : (threads : List ThreadSpec) (index : ℕ) (specs : List PartSpec) (seens : List (List Event)) (journals : List (Kept Event)) (ends : List PartEnd)
+    → AreLeft specs seens journals ends → HaveNoOthers threads index specs seens → HaveNoOthers threads index specs (map events_in journals)
+no_others_left threads index [] [] [] [] h n = tt
+no_others_left threads index [] [] [] (end ∷ ends) h n = absurd h
+no_others_left threads index [] [] (journal ∷ journals) ends h n = absurd h
+no_others_left threads index [] (seen ∷ seens) journals ends h n = absurd h
+no_others_left threads index (spec ∷ specs) [] journals ends h n = absurd h
+no_others_left threads index (spec ∷ specs) (seen ∷ seens) [] ends h n = absurd h
+no_others_left threads index (spec ∷ specs) (seen ∷ seens) (journal ∷ journals) [] h n = absurd h
+no_others_left threads index (spec ∷ specs) (seen ∷ seens) (journal ∷ journals) (end ∷ ends) h n = (
   record {
     invoked = λ thread. as_many (is_invocation_by thread) seen journal.list (other_invokes thread) h.0.goes_on ∙ n.0.invoked thread;
     arrived = as_many is_arrival seen journal.list other_arrives h.0.goes_on ∙ n.0.arrived;
   },
-  no_others_left threads (suc place) specs seens journals ends h.1 n.1,
+  no_others_left threads (suc index) specs seens journals ends h.1 n.1,
 )
 
--- what has been seen of each part begins its journal
+-- what was seen of each part is a prefix of its journal
 pub begin_left : (specs : List PartSpec) (seens : List (List Event)) (journals : List (Kept Event)) (ends : List PartEnd)
     → AreLeft specs seens journals ends → (part : ℕ) → IsPrefix (journal_at seens part) (journal_at (map events_in journals) part)
 begin_left [] [] [] [] h part = ([], refl)
@@ -125,7 +125,7 @@ begin_left (spec ∷ specs) (seen ∷ seens) (journal ∷ journals) [] h part = 
 begin_left (spec ∷ specs) (seen ∷ seens) (journal ∷ journals) (end ∷ ends) h zero = prefix_of seen journal.list h.0.goes_on
 begin_left (spec ∷ specs) (seen ∷ seens) (journal ∷ journals) (end ∷ ends) h (suc part) = begin_left specs seens journals ends h.1 part
 
--- as many journals as parts
+-- there are as many journals as parts
 pub count_left : (specs : List PartSpec) (journals : List (List Event)) → AreRuns specs journals → length journals ≡ length specs
 count_left [] [] h = refl
 count_left [] (journal ∷ journals) h = absurd h

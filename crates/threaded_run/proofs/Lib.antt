@@ -5,7 +5,7 @@ pub mod Growing
 pub mod Heard
 pub mod Leaving
 pub mod Ordered
-pub mod Placed
+pub mod Numbered
 pub mod Refusing
 pub mod Sending
 pub mod Threading

@@ -1,4 +1,4 @@
--- Threads that worked off their scripts by one clock have left journals that are one run.
+-- The journals of threads that finished their scripts by one clock are one run.
 use Rattle.std.proofs.Common.{◌≡◌, ℕ, zero, suc, ◌<◌, ◌≤◌, List, [], ◌∷◌, ◌++◌, map, slice_index_or, refl, sym, subst, arith}
 use mathlib.Core.List.{IsPrefix}
 use Rattle.app_threads.specs.Order.{AllFollow, Follows}
@@ -9,12 +9,12 @@ use Rattle.nook_data.specs.declared.desks.Receipt.{Receipt}
 use Rattle.nook_data.specs.declared.scenario.ThreadSpec.{ThreadSpec}
 use Rattle.nook_data.specs.declared.steps.Event.{Event}
 use Rattle.order_defs.specs.OneClock.{AreInOrder, AreStamped, Follow}
-use Rattle.run_ends.specs.Journals.{events_in}
+use Rattle.run_results.specs.Journals.{events_in}
 use Rattle.threaded_run.proofs.Growing.{receipts_grown}
 use Rattle.threaded_run.specs.Leaving.{AreStampedFrom, HaveRows}
 use Rattle.threaded_run.specs.Threaded.{HaveReceipts, journal_at}
 
--- ---- stamps of which only the first were seen
+-- ---- stamps of which only a prefix was seen
 
 -- the journals' events are stamped, and each part's stamps begin with these
 pub record Begun (seen : List (List ℕ)) (journals : List (List Event)) : Type 0 where
@@ -39,13 +39,13 @@ begun (own ∷ seen) (journal ∷ journals) h =
     by_part more zero = h.0.begins
     by_part more (suc part) = more.begin part
 
--- a number above 0 stands in a list, and in every list that begins with it
+-- a number above 0 stays in a list that grows
 kept_at : (i : ℕ) (seen rest : List ℕ) → 0 < slice_index_or seen i 0 → slice_index_or (seen ++ rest) i 0 ≡ slice_index_or seen i 0
 kept_at i [] rest h = absurd (omega arith)
 kept_at zero (x ∷ seen) rest h = refl
 kept_at (suc i) (x ∷ seen) rest h = kept_at i seen rest h
 
-stamp_kept : (seen stamps : List ℕ) (place : ℕ) → IsPrefix seen stamps → 0 < stamp_of seen place → stamp_of stamps place ≡ stamp_of seen place
+stamp_kept : (seen stamps : List ℕ) (number : ℕ) → IsPrefix seen stamps → 0 < stamp_of seen number → stamp_of stamps number ≡ stamp_of seen number
 stamp_kept seen stamps zero p h = refl
 stamp_kept seen stamps (suc i) p h =
     subst (λ (xs : List ℕ). slice_index_or xs i 0 ≡ slice_index_or seen i 0) p.1 (kept_at i seen p.0 h)
@@ -55,8 +55,8 @@ stamp_kept seen stamps (suc i) p h =
 module _ (seens journals : List (List Event)) (seen stamps : List (List ℕ))
     (begins : (part : ℕ) → IsPrefix (journal_at seens part) (journal_at journals part))
     (begin : (part : ℕ) → IsPrefix (stamps_on seen part) (stamps_on stamps part)) where
-  at_kept : (part place : ℕ) → 0 < stamp_at seen part place → stamp_at stamps part place ≡ stamp_at seen part place
-  at_kept part place h = stamp_kept (stamps_on seen part) (stamps_on stamps part) place (begin part) h
+  at_kept : (part number : ℕ) → 0 < stamp_at seen part number → stamp_at stamps part number ≡ stamp_at seen part number
+  at_kept part number h = stamp_kept (stamps_on seen part) (stamps_on stamps part) number (begin part) h
 
   above : (a b : ℕ) → a < b → 0 < b
   above a b l = omega arith

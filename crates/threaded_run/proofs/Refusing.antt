@@ -1,4 +1,4 @@
--- No desk of a valid scenario refuses a thread but for want of memory.
+-- A desk of a valid scenario refuses a thread only if memory runs out.
 use Rattle.std.proofs.Common.{◌≡◌, ℕ, zero, suc, ◌+◌, ◌*◌, ◌<◌, ◌≤◌, ◌==◌, is_some, Bool, true, false, Some, Err, List, [], ◌∷◌, ◌++◌, filter, length, length-append, slice_get, slice_index_or, refl, sym, ap, ◌∙◌, subst, arith, eqb-true}
 use Rattle.std.specs.Prelude.{All}
 use Rattle.std.specs.List.{AllByRecursion, list_any}
@@ -21,25 +21,25 @@ use Rattle.nook_data.specs.declared.steps.Event.TheVariants as event
 use Rattle.nook_data.specs.declared.calls.Op.{Op}
 use Rattle.nook_data.specs.declared.scenario.PartSpec.{PartSpec}
 use Rattle.nook_data.specs.declared.scenario.ThreadSpec.{ThreadSpec}
-use Rattle.nook_data.specs.Places.{at_number}
+use Rattle.nook_data.specs.Numbered.{at_number}
 use Rattle.part_defs.specs.Runs.{IsRun, IsRunFrom, state_after, state_of, step_of}
 use Rattle.part_defs.specs.State.{PartState}
 use Rattle.part_defs.specs.Steps.{opening}
 use Rattle.nook_data.specs.Valid.{IsValidPart}
 use Rattle.part_laws.proofs.Counts.{run_measured}
-use Rattle.part_laws.proofs.Places.{some_same, split}
+use Rattle.part_laws.proofs.Indices.{some_same, split}
 use Rattle.part_laws.proofs.ValidFits.{valid_fits}
 use Rattle.part_laws.specs.Bound.{IsMeasured, is_arrival, is_invoke as invokes}
 use Rattle.part_server.proofs.Opens.{was_invoked}
 use Rattle.part_server.specs.Answers.{is_invocation}
-use Rattle.threaded_run.proofs.Counted.{AddedAll, added_all, counted_within, frames_counted, place_there}
+use Rattle.threaded_run.proofs.Counted.{AddedAll, added_all, counted_within, frames_counted, position_there}
 use Rattle.threaded_run.proofs.Growing.{is_at_grown}
-use Rattle.threaded_run.proofs.Placed.{Has, filter_short, has_held}
+use Rattle.threaded_run.proofs.Numbered.{Has, filter_short, has_held}
 use Rattle.threaded_run.proofs.Working.{DidAll, did_all, new_at, valid_at}
 use Rattle.threaded_run.specs.Leaving.{AreNew}
 use Rattle.threaded_run.specs.Unheard.{IsForMemory}
 
--- ---- beginnings of runs
+-- ---- prefixes of runs
 
 run_front : (p : PartState) (xs ys : List Event) → IsRunFrom p (xs ++ ys) → IsRunFrom p xs
 unfolding IsRunFrom
@@ -120,98 +120,98 @@ not_both call thread (event.Burst context c burst count end acts a failure) h ot
 not_both call thread (event.Stage stage answers released) h other = false_is h
 not_both call thread (event.Arrive frame kept) h other = false_is h
 
--- an event that passes stands at a place
+-- an event passes the test
 record IsThere (test : Event → Bool) (events : List Event) : Type 0 where
-  place : ℕ
-  at : IsAt events (suc place) (λ e. test e ≡ true)
+  number : ℕ
+  at : IsAt events (suc number) (λ e. test e ≡ true)
 
 any_there : (test : Event → Bool) (events : List Event) → list_any test events ≡ true → IsThere test events
 any_there test [] h = false_is h
 any_there test (e ∷ events) h = split (test e)
-    (λ t. record { place = 0; at = record { event = e; there = refl; is = t } })
+    (λ t. record { number = 0; at = record { event = e; there = refl; is = t } })
     (λ f.
     let more : IsThere test events = any_there test events (rw f at h) in
-    record { place = suc more.place; at = record { event = more.at.event; there = more.at.there; is = more.at.is } })
+    record { number = suc more.number; at = record { event = more.at.event; there = more.at.there; is = more.at.is } })
 
--- ---- what cannot be
+-- ---- what is impossible
 
-module _ (spec : PartSpec) (view : DeskView) (places : List ℕ) (whole : AddedAll view places) (between : List Event) (to : IsPrefix between view.seen)
+module _ (spec : PartSpec) (view : DeskView) (numbers : List ℕ) (whole : AddedAll view numbers) (between : List Event) (to : IsPrefix between view.seen)
     (valid : IsValidPart spec) (run : IsRun spec view.seen) where
   measured : IsMeasured spec between
   measured = run_measured spec between (valid_fits spec valid) (run_before spec between view.seen to run)
 
-  few_calls : (n : ℕ) → length (invokes_at view.seen places) ≤ n → n < 100000 → (state_of spec between).log.count ≡ 100000 → ⊥
+  few_calls : (n : ℕ) → length (invokes_at view.seen numbers) ≤ n → n < 100000 → (state_of spec between).log.count ≡ 100000 → ⊥
   few_calls n most small many =
-      let all : length (filter invokes view.seen) ≤ length (invokes_at view.seen places) =
-      counted_within view places invokes (λ p. is_invoke (at_number p view.seen)) whole
-      (λ e place at passes. subst (λ o. is_invoke o ≡ true) (sym at) (invoke_found e passes)) in
+      let all : length (filter invokes view.seen) ≤ length (invokes_at view.seen numbers) =
+      counted_within view numbers invokes (λ p. is_invoke (at_number p view.seen)) whole
+      (λ e number at passes. subst (λ o. is_invoke o ≡ true) (sym at) (invoke_found e passes)) in
       let before : length (filter invokes between) ≤ length (filter invokes view.seen) = fewer_before invokes between view.seen to in
       let count : (state_of spec between).log.count ≡ length (filter invokes between) = measured.calls ∙ sym (length-filter invokes between) in
       omega arith
 
-  few_arrivals : (n : ℕ) → length (frames_at view.seen places) ≤ n → n < 100000 → (state_of spec between).arrived ≡ 100000 → ⊥
+  few_arrivals : (n : ℕ) → length (frames_at view.seen numbers) ≤ n → n < 100000 → (state_of spec between).arrived ≡ 100000 → ⊥
   few_arrivals n most small many =
-      let all : length (filter is_arrival view.seen) ≤ length (filter (λ p. is_some (frame_of (at_number p view.seen))) places) =
-      counted_within view places is_arrival (λ p. is_some (frame_of (at_number p view.seen))) whole
-      (λ e place at passes. subst (λ o. is_some (frame_of o) ≡ true) (sym at) (arrive_found e passes)) in
-      let same : length (filter (λ p. is_some (frame_of (at_number p view.seen))) places) ≡ length (frames_at view.seen places) = frames_counted view.seen places in
+      let all : length (filter is_arrival view.seen) ≤ length (filter (λ p. is_some (frame_of (at_number p view.seen))) numbers) =
+      counted_within view numbers is_arrival (λ p. is_some (frame_of (at_number p view.seen))) whole
+      (λ e number at passes. subst (λ o. is_some (frame_of o) ≡ true) (sym at) (arrive_found e passes)) in
+      let same : length (filter (λ p. is_some (frame_of (at_number p view.seen))) numbers) ≡ length (frames_at view.seen numbers) = frames_counted view.seen numbers in
       let before : length (filter is_arrival between) ≤ length (filter is_arrival view.seen) = fewer_before is_arrival between view.seen to in
       let count : (state_of spec between).arrived ≡ length (filter is_arrival between) = measured.arrivals ∙ sym (length-filter is_arrival between) in
       omega arith
 
-  not_open : (thread call : ℕ) → HasOpen (state_of spec between) thread call → All (λ place. IsAt view.seen place (IsNoInvoke call)) places → ⊥
+  not_open : (thread call : ℕ) → HasOpen (state_of spec between) thread call → All (λ number. IsAt view.seen number (IsNoInvoke call)) numbers → ⊥
   not_open thread call open_one foreign =
       let some : IsThere (is_invocation call thread) between =
       any_there (is_invocation call thread) between (was_invoked spec between thread call valid (run_before spec between view.seen to run) open_one) in
-      let place : ℕ = suc some.place in
-      let here : IsAt view.seen place (λ e. is_invocation call thread e ≡ true) = is_at_grown between view.seen place _ to some.at in
-      let among : Has place places = whole place (omega arith) (place_there view.seen place here.event here.there) in
-      let other : IsAt view.seen place (IsNoInvoke call) =
-      has_held (λ q. IsAt view.seen q (IsNoInvoke call)) place places (recursion_from_All (λ q. IsAt view.seen q (IsNoInvoke call)) places foreign) among in
+      let number : ℕ = suc some.number in
+      let here : IsAt view.seen number (λ e. is_invocation call thread e ≡ true) = is_at_grown between view.seen number _ to some.at in
+      let among : Has number numbers = whole number (omega arith) (position_there view.seen number here.event here.there) in
+      let other : IsAt view.seen number (IsNoInvoke call) =
+      has_held (λ q. IsAt view.seen q (IsNoInvoke call)) number numbers (recursion_from_All (λ q. IsAt view.seen q (IsNoInvoke call)) numbers foreign) among in
       not_both call thread here.event here.is (subst (IsNoInvoke call) (some_same other.event here.event (sym other.there ∙ here.there)) other.is)
 
--- ---- what workers tell
+-- ---- what workers report
 
 module _ (specs : List PartSpec) (scripts : List ThreadSpec) (arrivals : List (List (List ℕ))) (olds news : List DeskView) (count : ℕ)
     (valid : All IsValidPart specs) (few : AreScripts count scripts) (fit : AreArrivals specs arrivals)
     (new : AreNew olds) (keep : KeepAccounts olds news) (stay : StayAlone olds news)
     (most : (d : ℕ) (v w : DeskView) → slice_get olds d ≡ Some v → slice_get news d ≡ Some w → AtMost scripts (slice_index_or arrivals d []) d v w) where
   -- the seat added all that it has seen since it was new
-  all_of : (d : ℕ) (v w : DeskView) (places : List ℕ) → slice_get olds d ≡ Some v → slice_get news d ≡ Some w → w.made ≡ v.made ++ places → AddedAll w places
-  all_of d v w places at_old at_new made =
+  all_of : (d : ℕ) (v w : DeskView) (numbers : List ℕ) → slice_get olds d ≡ Some v → slice_get news d ≡ Some w → w.made ≡ v.made ++ numbers → AddedAll w numbers
+  all_of d v w numbers at_old at_new made =
       let did : DidAll w = did_all olds news new keep stay d w at_new in
-      added_all v w places (ap (λ (x : DeskView). x.made) (new_at olds d v new at_old)) made did.accounts did.alone
+      added_all v w numbers (ap (λ (x : DeskView). x.made) (new_at olds d v new at_old)) made did.accounts did.alone
 
-  thread_refused : (thread place part : ℕ) (why : DeskRefused) → AreRuns specs news → IsThreadRefused specs scripts arrivals olds news thread place part why
-      → IsForMemory (stop.Refused (work.Script thread) place part why)
-  thread_refused thread place part (refused.NoMemory call) runs h = tt
-  thread_refused thread place part refused.TooManyCalls runs h =
+  thread_refused : (thread number part : ℕ) (why : DeskRefused) → AreRuns specs news → IsThreadRefused specs scripts arrivals olds news thread number part why
+      → IsForMemory (stop.Refused (work.Script thread) number part why)
+  thread_refused thread number part (refused.NoMemory call) runs h = tt
+  thread_refused thread number part refused.TooManyCalls runs h =
       let r = h.refusal_is.cause in
       let m = most part r.old r.new r.old_there r.new_there in
-      few_calls r.spec r.new m.places (all_of part r.old r.new m.places r.old_there r.new_there m.grows.made) r.between r.to
+      few_calls r.spec r.new m.numbers (all_of part r.old r.new m.numbers r.old_there r.new_there m.grows.made) r.between r.to
       (valid_at specs part r.spec valid r.spec_there) (runs part r.spec r.new r.spec_there r.new_there) 4096
       (let a = m.invoked_in_all in let b = few_in_all count part scripts few in omega arith) (omega arith) r.cause.1
-  thread_refused thread place part (refused.OpenCall call) runs h =
+  thread_refused thread number part (refused.OpenCall call) runs h =
       let r = h.refusal_is.cause in
       let f = h.foreign call r.old r.new refl r.old_there r.new_there in
       not_open r.spec r.new f.0 (all_of part r.old r.new f.0 r.old_there r.new_there f.1) r.between r.to
       (valid_at specs part r.spec valid r.spec_there) (runs part r.spec r.new r.spec_there r.new_there) thread call r.cause f.2
-  thread_refused thread place part refused.NoOpenCall runs h = h.refusal_is.cause.cause
-  thread_refused thread place part refused.TooManyArrivals runs h = h.refusal_is.cause.cause
+  thread_refused thread number part refused.NoOpenCall runs h = h.refusal_is.cause.cause
+  thread_refused thread number part refused.TooManyArrivals runs h = h.refusal_is.cause.cause
 
-  part_refused : (p place part : ℕ) (why : DeskRefused) → AreRuns specs news → IsPartRefused specs scripts arrivals olds news place part why
-      → IsForMemory (stop.Refused (work.Arrivals p) place part why)
-  part_refused p place part (refused.NoMemory call) runs h = tt
-  part_refused p place part refused.TooManyCalls runs h = h.refusal_is.cause.cause
-  part_refused p place part (refused.OpenCall call) runs h = h.refusal_is.cause.cause
-  part_refused p place part refused.NoOpenCall runs h = h.refusal_is.cause.cause
-  part_refused p place part refused.TooManyArrivals runs h =
+  part_refused : (p number part : ℕ) (why : DeskRefused) → AreRuns specs news → IsPartRefused specs scripts arrivals olds news number part why
+      → IsForMemory (stop.Refused (work.Arrivals p) number part why)
+  part_refused p number part (refused.NoMemory call) runs h = tt
+  part_refused p number part refused.TooManyCalls runs h = h.refusal_is.cause.cause
+  part_refused p number part (refused.OpenCall call) runs h = h.refusal_is.cause.cause
+  part_refused p number part refused.NoOpenCall runs h = h.refusal_is.cause.cause
+  part_refused p number part refused.TooManyArrivals runs h =
       let r = h.refusal_is.cause in
       let m = most part r.old r.new r.old_there r.new_there in
       let frames : slice_index_or arrivals part [] ≡ h.frames = get_or_from_slice_get arrivals part h.frames [] h.there in
       let size : length (slice_index_or arrivals part []) ≡ length h.frames = ap length frames in
       let small : length h.frames ≤ 256 = (fit.1 part h.frames h.there).0 in
-      few_arrivals r.spec r.new m.places (all_of part r.old r.new m.places r.old_there r.new_there m.grows.made) r.between r.to
+      few_arrivals r.spec r.new m.numbers (all_of part r.old r.new m.numbers r.old_there r.new_there m.grows.made) r.between r.to
       (valid_at specs part r.spec valid r.spec_there) (runs part r.spec r.new r.spec_there r.new_there) 256
       (let a = m.arrived in omega arith) (omega arith) r.cause
 
@@ -219,11 +219,11 @@ pub only_for_memory : (specs : List PartSpec) (scripts : List ThreadSpec) (arriv
     → All IsValidPart specs → AreScripts count scripts → AreArrivals specs arrivals → AreNew olds → KeepAccounts olds news
     → WorkersEnd specs scripts arrivals olds news (Err why) → IsForMemory why
 only_for_memory specs scripts arrivals olds news count stop.NoMemory valid few fit new keep h = tt
-only_for_memory specs scripts arrivals olds news count (stop.Refused (work.Script thread) place part why) valid few fit new keep h =
+only_for_memory specs scripts arrivals olds news count (stop.Refused (work.Script thread) number part why) valid few fit new keep h =
     let a = h.1 in
-    thread_refused specs scripts arrivals olds news count valid few fit new keep h.3 h.0.1 thread place part why
+    thread_refused specs scripts arrivals olds news count valid few fit new keep h.3 h.0.1 thread number part why
     (h.2 (some_script scripts arrivals thread a.script a.there)) a
-only_for_memory specs scripts arrivals olds news count (stop.Refused (work.Arrivals p) place part why) valid few fit new keep h =
+only_for_memory specs scripts arrivals olds news count (stop.Refused (work.Arrivals p) number part why) valid few fit new keep h =
     let b = h.1.1 in
-    part_refused specs scripts arrivals olds news count valid few fit new keep h.3 h.0.1 p place part why
-    (h.2 (some_arrival scripts arrivals part b.frames b.there (let within : place < length b.frames = b.refusal_is.frame in omega arith))) b
+    part_refused specs scripts arrivals olds news count valid few fit new keep h.3 h.0.1 p number part why
+    (h.2 (some_arrival scripts arrivals part b.frames b.there (let within : number < length b.frames = b.refusal_is.frame in omega arith))) b

@@ -1,4 +1,4 @@
--- Seats may go to other threads, and desks may be shared by them.
+-- Seats may be sent to other threads, and threads may share desks.
 use denote.Param.Send.{IsSend, IsSync, sendable}
 use Rattle.atomic_table.proofs.shared.Seat.TheSendSync as table_seat
 use Rattle.turn_lock.proofs.turn.Turn.TheSendSync as turn
@@ -6,7 +6,7 @@ use Rattle.clocks.proofs.clock.Time.TheLaws.TheKnot as times
 use Rattle.clocks.proofs.stamps.Row.TheLaws.TheKnot as rows
 use Rattle.clocks.specs.contracts.clock.Clock as clock
 use Rattle.clocks.specs.contracts.stamps.Stamps as stamps
-use Rattle.part_server.proofs.held.Held.TheSendSync as held
+use Rattle.part_server.proofs.held.LockedPart.TheSendSync as held
 use Rattle.part_server.specs.contracts.dated.Dated as dated
 use Rattle.part_server.specs.contracts.desk.PartDesk as desk
 use Rattle.part_server.specs.contracts.seat.DeskSeat as seat

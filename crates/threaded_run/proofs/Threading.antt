@@ -1,4 +1,4 @@
--- Threads that worked off their scripts have left a run by threads.
+-- Threads that finished their scripts have left a run by threads.
 use Rattle.std.proofs.Common.{◌≡◌, ℕ, suc, List, [], ◌∷◌, map, refl, sym, subst}
 use mathlib.Core.List.{IsPrefix}
 use Rattle.app_threads.specs.Order.{AllFollow}
@@ -8,8 +8,8 @@ use Rattle.nook_data.specs.declared.desks.Receipt.{Receipt}
 use Rattle.nook_data.specs.declared.scenario.Scenario.{Scenario}
 use Rattle.nook_data.specs.declared.scenario.ThreadSpec.{ThreadSpec}
 use Rattle.nook_data.specs.Views.Room.{Kept}
-use Rattle.report_text.specs.declared.whole_report.PartEnd.{PartEnd}
-use Rattle.run_ends.specs.Journals.{events_in}
+use Rattle.run_results.specs.declared.report.PartEnd.{PartEnd}
+use Rattle.run_results.specs.Journals.{events_in}
 use Rattle.order_defs.specs.OneClock.{AreOneRun}
 use Rattle.threaded_run.proofs.Growing.{receipts_grown}
 use Rattle.threaded_run.proofs.Leaving.{arrivals_left, begin_left, ends_left, no_others_left, runs_left, settled_left}

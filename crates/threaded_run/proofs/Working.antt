@@ -1,4 +1,4 @@
--- What workers leave, in the words of a run by threads.
+-- What workers leave, in the terms of a run by threads.
 use Rattle.std.proofs.Common.{◌≡◌, ℕ, zero, suc, ◌+◌, ◌<◌, ◌≤◌, ◌==◌, ◌⊎◌, inl, inr, Bool, true, false, Option, Some, None, is_some, List, [], ◌∷◌, length, map, get_or, slice_get, slice_index_or, refl, sym, ap, ◌∙◌, subst, arith}
 use Rattle.std.specs.Prelude.{All}
 use Rattle.std.specs.List.{filter}
@@ -19,9 +19,9 @@ use Rattle.nook_data.specs.declared.scenario.PartSpec.{PartSpec}
 use Rattle.nook_data.specs.declared.desks.Receipt.{Receipt}
 use Rattle.nook_data.specs.declared.scenario.Scenario.{Scenario}
 use Rattle.nook_data.specs.declared.scenario.ThreadSpec.{ThreadSpec}
-use Rattle.nook_data.specs.Places.{at_number}
+use Rattle.nook_data.specs.Numbered.{at_number}
 use Rattle.nook_data.specs.Valid.{FitsClass, IsValidPart, IsValidScenario, IsValidThread}
-use Rattle.part_laws.proofs.Places.{some_same}
+use Rattle.part_laws.proofs.Indices.{some_same}
 use Rattle.part_server.specs.Turns.{opening_view}
 use Rattle.threaded_run.proofs.Counted.{added_all, has_no_others, invoked_same, no_others_from}
 use Rattle.threaded_run.specs.Leaving.{AreAlone, AreNew, HaveRows, HaveWorked}
@@ -51,11 +51,11 @@ receipts_of views thread ((part, op) ∷ ops) (receipt ∷ receipts) h = (
   receipts_of views thread ops receipts h.1,
 )
 
--- ---- places that rise
+-- ---- rising numbers
 
-rise_from_start : (n : ℕ) (places : List ℕ) → IsRisingFrom n places → IsRisingFrom 0 places
+rise_from_start : (n : ℕ) (numbers : List ℕ) → IsRisingFrom n numbers → IsRisingFrom 0 numbers
 rise_from_start n [] h = tt
-rise_from_start n (place ∷ places) h = (let low : n < place = h.0 in omega arith, h.1)
+rise_from_start n (number ∷ numbers) h = (let low : n < number = h.0 in omega arith, h.1)
 
 -- no operation is on a part that has no desk
 invoked_nowhere : (views : List DeskView) (thread part : ℕ) (ops : List (ℕ × Op)) (receipts : List Receipt) → AreReceipts views thread ops receipts
@@ -106,30 +106,30 @@ rows_from olds views thread (t ∷ threads) (row ∷ rows) same l h =
 -- ---- arrivals
 
 arrives_at : List Event → ℕ → Bool
-arrives_at seen place = is_some (frame_of (at_number place seen))
+arrives_at seen number = is_some (frame_of (at_number number seen))
 
-arrive_at_one : (seen : List Event) (place : ℕ) (places : List ℕ) (o : Option Event) → at_number place seen ≡ o
-    → ArriveAt seen (frames_at seen places) (filter (arrives_at seen) places)
-    → ArriveAt seen (frames_at seen (place ∷ places)) (filter (arrives_at seen) (place ∷ places))
+arrive_at_one : (seen : List Event) (number : ℕ) (numbers : List ℕ) (o : Option Event) → at_number number seen ≡ o
+    → ArriveAt seen (frames_at seen numbers) (filter (arrives_at seen) numbers)
+    → ArriveAt seen (frames_at seen (number ∷ numbers)) (filter (arrives_at seen) (number ∷ numbers))
 unfolding arrives_at
-arrive_at_one seen place places None e h = rw e h
-arrive_at_one seen place places (Some (event.Arrive frame kept)) e h =
+arrive_at_one seen number numbers None e h = rw e h
+arrive_at_one seen number numbers (Some (event.Arrive frame kept)) e h =
     rw e ((kept, record { event = event.Arrive frame kept; there = e; is = (refl, refl) }), h)
-arrive_at_one seen place places (Some (event.Invoke call thread op answer)) e h = rw e h
-arrive_at_one seen place places (Some (event.Enter call thread attempt answer)) e h = rw e h
-arrive_at_one seen place places (Some (event.Burst context call burst count end acts answer failure)) e h = rw e h
-arrive_at_one seen place places (Some (event.Stage stage answers released)) e h = rw e h
+arrive_at_one seen number numbers (Some (event.Invoke call thread op answer)) e h = rw e h
+arrive_at_one seen number numbers (Some (event.Enter call thread attempt answer)) e h = rw e h
+arrive_at_one seen number numbers (Some (event.Burst context call burst count end acts answer failure)) e h = rw e h
+arrive_at_one seen number numbers (Some (event.Stage stage answers released)) e h = rw e h
 
-arrive_at : (seen : List Event) (places : List ℕ) → ArriveAt seen (frames_at seen places) (filter (arrives_at seen) places)
+arrive_at : (seen : List Event) (numbers : List ℕ) → ArriveAt seen (frames_at seen numbers) (filter (arrives_at seen) numbers)
 arrive_at seen [] = tt
-arrive_at seen (place ∷ places) = arrive_at_one seen place places (at_number place seen) refl (arrive_at seen places)
+arrive_at seen (number ∷ numbers) = arrive_at_one seen number numbers (at_number number seen) refl (arrive_at seen numbers)
 
 arrivals_of_one : (old view : DeskView) (frames : List (List ℕ)) → HasArrived old view frames → HasArrivals view.seen frames
 arrivals_of_one old view frames h = record {
-  places = filter (arrives_at view.seen) h.places;
-  rising = rise_from_start (length old.seen) (filter (arrives_at view.seen) h.places)
-      (rising_filter (arrives_at view.seen) (length old.seen) h.places h.rising);
-  arrive = subst (λ xs. ArriveAt view.seen xs (filter (arrives_at view.seen) h.places)) h.arrived (arrive_at view.seen h.places);
+  numbers = filter (arrives_at view.seen) h.numbers;
+  rising = rise_from_start (length old.seen) (filter (arrives_at view.seen) h.numbers)
+      (rising_filter (arrives_at view.seen) (length old.seen) h.numbers h.rising);
+  arrive = subst (λ xs. ArriveAt view.seen xs (filter (arrives_at view.seen) h.numbers)) h.arrived (arrive_at view.seen h.numbers);
 }
 
 arrivals_from : (parts : List PartSpec) (views : List DeskView) → length views ≡ length parts
@@ -159,19 +159,19 @@ new_at [] d view new h = cc
 new_at (v ∷ olds) zero view new h = sym (some_same v view h) ∙ new.0
 new_at (v ∷ olds) (suc d) view new h = new_at olds d view new.1 h
 
--- an opening seat accounts for all that was added through it, and is alone
+-- the first seat of a new desk accounts for all that was added through it, and is alone
 pub new_accounts : Accounts opening_view
-new_accounts = record { within = λ k d within. absurd (omega arith); all = λ alone place low high. absurd (omega arith) }
+new_accounts = record { within = λ k d within. absurd (omega arith); all = λ alone number low high. absurd (omega arith) }
 
 pub new_alone : IsAlone opening_view
 new_alone point = refl
 
--- all that was done at its desk was done through a seat that is the only one
+-- all that was done at the seat's desk was done through this seat, which is the only one
 pub record DidAll (view : DeskView) : Type 0 where
   pub accounts : Accounts view
   pub alone : IsAlone view
 
--- seats that were new and the only ones, and kept that through the work of others
+-- seats that were new and the only ones, and stayed so during the work of others
 pub did_all : (olds views : List DeskView) → AreNew olds → KeepAccounts olds views → StayAlone olds views
     → (d : ℕ) (view : DeskView) → slice_get views d ≡ Some view → DidAll view
 did_all olds views new keep stay d view there =
@@ -187,15 +187,15 @@ pub all_alone : (views : List DeskView) → ((d : ℕ) (view : DeskView) → sli
 all_alone [] h = tt
 all_alone (v ∷ views) h = ((h 0 v refl).alone, all_alone views (λ d w there. h (suc d) w there))
 
--- ---- all
+-- ---- all together
 
 finished_part : (specs parts : List PartSpec) (threads : List ThreadSpec) (olds views : List DeskView) (rows : List (List Receipt)) (d : ℕ) (spec : PartSpec) (old view : DeskView)
     → AreFinished specs threads (map (λ (s : PartSpec). s.arrivals) parts) olds views rows → HaveRows (seens_of views) 0 threads rows → old ≡ opening_view → DidAll view
     → slice_get parts d ≡ Some spec → slice_get olds d ≡ Some old → slice_get views d ≡ Some view → HasArrivals view.seen spec.arrivals → HasNoOthers threads d spec view.seen
 finished_part specs parts threads olds views rows d spec old view h served new did at_part at_old at_view arrived =
     let g = h.gains.1 d old view at_old at_view in
-    has_no_others view g.places
-    (added_all old view g.places (ap (λ (v : DeskView). v.made) new) g.grows.made did.accounts did.alone)
+    has_no_others view g.numbers
+    (added_all old view g.numbers (ap (λ (v : DeskView). v.made) new) g.grows.made did.accounts did.alone)
     (seens_of views) threads rows served d (seen_at views d view at_view) g.invoked spec
     (g.arrived ∙ frames_of_part parts d spec at_part) arrived
 
@@ -224,7 +224,7 @@ have_worked specs parts threads olds views rows long new keep stay h =
           (did_all olds views new keep stay d view b) a old.1 b (arrived d spec view a b)));
     }
 
--- ---- what the workers are handed
+-- ---- what workers are given
 
 script_fits : (count : ℕ) (thread : ThreadSpec) → IsValidThread count thread → (length thread.ops ≤ 256) × All (λ (o : ℕ × Op). o.0 < count) thread.ops
 script_fits count thread v = (v.op_count, λ k d within. (v.ops k d within).0)

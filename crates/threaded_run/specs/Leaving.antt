@@ -1,4 +1,4 @@
--- What desks' parts leave once no step of theirs is left.
+-- What desks' parts leave when they have no step left except invocations and arrivals.
 use Rattle.std.specs.Prelude.{◌≡◌, ℕ, suc, None, List, [], ◌∷◌, ◌++◌}
 use Rattle.std.specs.List.{AllByRecursion}
 use Rattle.nook_data.specs.declared.calls.Answer.{Answer}
@@ -8,35 +8,35 @@ use Rattle.nook_data.specs.declared.desks.Receipt.{Receipt}
 use Rattle.nook_data.specs.declared.scenario.ThreadSpec.{ThreadSpec}
 use Rattle.nook_data.specs.Views.Room.{Kept}
 use Rattle.part_defs.specs.Runs.{IsRun, PartRun, next_any, state_of}
-use Rattle.report_text.specs.declared.whole_report.PartEnd.{PartEnd}
-use Rattle.report_text.specs.Whole.{ShowsState}
+use Rattle.run_results.specs.declared.report.PartEnd.{PartEnd}
+use Rattle.run_results.specs.Reports.{ShowsState}
 use Rattle.desk_like.specs.Desks.{DeskView, IsAlone, IsOther, IsRisingFrom}
 use Rattle.desk_like.specs.Stamps.{IsStampedFrom}
 use Rattle.part_server.specs.Turns.{opening_view}
 use Rattle.threaded_run.specs.Others.{HaveNoOthers}
 use Rattle.threaded_run.specs.Threaded.{HaveArrivals, HaveReceipts, answers_by, invoked_on}
 
--- the journal goes on behind these events, with no invocation and no arrival
+-- the journal continues after these events, without an invocation or an arrival
 pub record GoesOn (seen journal : List Event) : Type 0 where
   pub rest : List Event
   pub begins : seen ++ rest ≡ journal
   pub others : AllByRecursion IsOther rest
 
--- the part is one of this spec, its journal goes on behind what the only seat at its desk has seen, and it has no step
--- left but invocations and arrivals
+-- The part has this spec. Its journal continues what the only seat at its desk has seen, and it has no step left except
+-- invocations and arrivals
 pub record IsClosed (spec : PartSpec) (seen : List Event) (part : PartRun) : Type 0 where
   pub same : part.state.spec ≡ spec
   pub goes_on : GoesOn seen part.journal
   pub settled : next_any (state_of spec part.journal) ≡ None
 
--- so it is with a part's journal and what the part ends in
+-- the same for a part's journal and what the part ends in
 pub record IsLeft (spec : PartSpec) (seen : List Event) (journal : Kept Event) (end : PartEnd) : Type 0 where
   pub run : IsRun spec journal.list
   pub goes_on : GoesOn seen journal.list
   pub settled : next_any (state_of spec journal.list) ≡ None
   pub shows : ShowsState spec (state_of spec journal.list) end
 
--- so it is with each part's
+-- the same for each part's journal and end
 abbrev pub AreLeft : List PartSpec → List (List Event) → List (Kept Event) → List PartEnd → Type 0
 AreLeft [] [] [] [] = Unit {0}
 AreLeft (spec ∷ specs) (seen ∷ seens) (journal ∷ journals) (end ∷ ends) =
@@ -55,7 +55,7 @@ answers_in [] rows = []
 answers_in (t ∷ threads) [] = []
 answers_in (t ∷ threads) (row ∷ rows) = answers_by t.ops row ∷ answers_in threads rows
 
--- a receipt for each operation of each thread, from one on, invoked in order on each part
+-- a receipt for each operation of each thread, from this thread on, invoked in order on each part
 abbrev pub HaveRows : List (List Event) → ℕ → List ThreadSpec → List (List Receipt) → Type 0
 HaveRows journals thread [] [] = Unit {0}
 HaveRows journals thread (t ∷ threads) (row ∷ rows) =
@@ -63,8 +63,8 @@ HaveRows journals thread (t ∷ threads) (row ∷ rows) =
     × HaveRows journals (suc thread) threads rows
 HaveRows journals thread _ _ = ⊥
 
--- threads worked off their scripts, and the parts' frames arrived, in what has been seen of each part, and nothing else
--- was invoked or arrived there
+-- Threads finished their scripts, and the parts' frames arrived, in what was seen of each part. Nothing else was
+-- invoked or arrived there
 pub record HaveWorked (parts : List PartSpec) (threads : List ThreadSpec) (seens : List (List Event))
     (rows : List (List Receipt)) : Type 0 where
   pub served : HaveRows seens 0 threads rows
@@ -75,6 +75,6 @@ pub record HaveWorked (parts : List PartSpec) (threads : List ThreadSpec) (seens
 abbrev pub AreAlone : List DeskView → Type 0
 AreAlone views = AllByRecursion IsAlone views
 
--- each seat is the first at its desk, at which nothing was done yet
+-- each seat is the first at its desk, where nothing was done yet
 abbrev pub AreNew : List DeskView → Type 0
 AreNew views = AllByRecursion (λ v. v ≡ opening_view) views

@@ -1,4 +1,4 @@
--- What a run by threads leaves: one journal a part, and each thread's answers.
+-- What a run by threads leaves: one journal per part, and each thread's answers.
 use Rattle.std.specs.Prelude.{◌≡◌, ℕ, suc, ◌==◌, if◌then◌else◌, Bool, List, [], ◌∷◌, ◌++◌, ◌⊎◌, None, map}
 use Rattle.std.specs.Prelude.{slice_index_or}
 use Rattle.desk_like.specs.Desks.{IsArrive, IsAt, IsReceipt, IsRisingFrom}
@@ -12,33 +12,33 @@ use Rattle.nook_data.specs.declared.scenario.ThreadSpec.{ThreadSpec}
 use Rattle.order_defs.specs.OneClock.{AreOneRun}
 use Rattle.part_defs.specs.Runs.{next_any, state_of}
 use Rattle.nook_io.specs.Listening.{Listening}
-use Rattle.request_taps.specs.Bus.{told_all}
+use Rattle.request_taps.specs.Bus.{after_hearing_all}
 use Rattle.request_taps.specs.declared.tap.Tap.{Tap}
-use Rattle.run_ends.specs.Journals.{AreRuns, with_part}
+use Rattle.run_results.specs.Journals.{AreRuns, with_part}
 use Rattle.threaded_run.specs.Others.{HaveNoOthers}
 
 -- ---- parts
 
--- each journal ends where no step of its part may be taken but an invocation or an arrival
+-- at the end of each journal its part can take no step except an invocation or an arrival
 abbrev pub AreSettled : List PartSpec → List (List Event) → Type 0
 AreSettled [] [] = Unit {0}
 AreSettled [] (journal ∷ journals) = ⊥
 AreSettled (spec ∷ specs) [] = ⊥
 AreSettled (spec ∷ specs) (journal ∷ journals) = (next_any (state_of spec journal) ≡ None) × AreSettled specs journals
 
--- the frames arrive in the journal in order, each at its place
+-- the frames arrive in the journal in order, in the events with these numbers
 abbrev pub ArriveAt : List Event → List (List ℕ) → List ℕ → Type 0
 ArriveAt journal [] [] = Unit {0}
-ArriveAt journal [] (place ∷ places) = ⊥
+ArriveAt journal [] (number ∷ numbers) = ⊥
 ArriveAt journal (frame ∷ frames) [] = ⊥
-ArriveAt journal (frame ∷ frames) (place ∷ places) =
-    ((kept : Bool) × IsAt journal place (IsArrive frame kept)) × ArriveAt journal frames places
+ArriveAt journal (frame ∷ frames) (number ∷ numbers) =
+    ((kept : Bool) × IsAt journal number (IsArrive frame kept)) × ArriveAt journal frames numbers
 
 -- a part's frames arrive in its journal in order
 pub record HasArrivals (journal : List Event) (frames : List (List ℕ)) : Type 0 where
-  pub places : List ℕ
-  pub rising : IsRisingFrom 0 places
-  pub arrive : ArriveAt journal frames places
+  pub numbers : List ℕ
+  pub rising : IsRisingFrom 0 numbers
+  pub arrive : ArriveAt journal frames numbers
 
 abbrev pub HaveArrivals : List PartSpec → List (List Event) → Type 0
 HaveArrivals [] journals = Unit {0}
@@ -59,7 +59,7 @@ HaveReceipts journals thread ((part, op) ∷ ops) [] = ⊥
 HaveReceipts journals thread ((part, op) ∷ ops) (receipt ∷ receipts) =
     IsReceipt (journal_at journals part) thread op receipt × HaveReceipts journals thread ops receipts
 
--- the places at which a script's operations on a part were invoked
+-- the numbers of the invocations of a script's operations on a part
 abbrev pub invoked_on : ℕ → List (ℕ × Op) → List Receipt → List ℕ
 invoked_on part [] receipts = []
 invoked_on part (o ∷ ops) [] = []
@@ -72,7 +72,7 @@ answers_by [] receipts = []
 answers_by (o ∷ ops) [] = []
 answers_by ((part, op) ∷ ops) (receipt ∷ receipts) = (part, receipt.answer) ∷ answers_by ops receipts
 
--- a thread's script with the answers is, on each part, in order among the thread's invocations and their answers
+-- on each part, a thread's operations with these answers are, in order, among its invocations and their answers
 pub record IsServed (journals : List (List Event)) (thread : ℕ) (ops : List (ℕ × Op))
     (answers : List (ℕ × Answer)) : Type 0 where
   pub receipts : List Receipt
@@ -80,7 +80,7 @@ pub record IsServed (journals : List (List Event)) (thread : ℕ) (ops : List (�
   pub rising : (part : ℕ) → IsRisingFrom 0 (invoked_on part ops receipts)
   pub same : answers ≡ answers_by ops receipts
 
--- so is each thread's, from one on
+-- the same for each thread, from this one on
 abbrev pub AreServed : List (List Event) → ℕ → List ThreadSpec → List (List (ℕ × Answer)) → Type 0
 AreServed journals thread [] [] = Unit {0}
 AreServed journals thread [] (answers ∷ table) = ⊥
@@ -90,9 +90,9 @@ AreServed journals thread (t ∷ threads) (answers ∷ table) =
 
 -- ---- the whole
 
--- The journals and answers of `run threads`: each part has taken all its steps; each thread's operations with its
--- answers, and each part's arrivals, are in the journals in order; the journals have no other invocation or arrival; and
--- they are one run, by one clock over all parts
+-- The journals and answers of `run threads`: each part has taken all its steps. Each thread's operations with its
+-- answers, and each part's arrivals, are in the journals in order. The journals have no other invocation or arrival,
+-- and they are one run, by one clock over all parts
 pub record IsThreaded (scenario : Scenario) (journals : List (List Event))
     (answers : List (List (ℕ × Answer))) : Type 0 where
   pub settled : AreSettled scenario.parts journals
@@ -101,7 +101,7 @@ pub record IsThreaded (scenario : Scenario) (journals : List (List Event))
   pub no_others : HaveNoOthers scenario.threads 0 scenario.parts journals
   pub one_run : AreOneRun scenario.threads journals
 
--- the events of journals, part by part, of which the first is that of part `part`
+-- the events of journals, part by part; the first journal is that of part `part`
 abbrev pub in_parts : ℕ → List (List Event) → List (ℕ × Event)
 in_parts part [] = []
 in_parts part (journal ∷ journals) = with_part part journal ++ in_parts (suc part) journals
@@ -112,13 +112,13 @@ pub record HearAll (scenario : Scenario) (old new : List (Tap Listening)) : Type
   pub answers : List (List (ℕ × Answer))
   pub runs : AreRuns scenario.parts journals
   pub threaded : IsThreaded scenario journals answers
-  pub heard : new ≡ told_all (in_parts 0 journals) old
+  pub heard : new ≡ after_hearing_all (in_parts 0 journals) old
 
--- what taps have heard where memory was wanting
+-- what taps have heard if memory ran out
 abbrev pub HearAllOrNothing : Scenario → List (Tap Listening) → List (Tap Listening) → Type 0
 HearAllOrNothing scenario old new = (new ≡ old) ⊎ HearAll scenario old new
 
--- every operation of every thread has its answer: the parts of a thread's answers are in order those of its operations
+-- every operation of every thread has an answer: a thread's answers have, in order, the parts of its operations
 abbrev pub AreAnswered : Scenario → List (List (ℕ × Answer)) → Type 0
 AreAnswered scenario answers =
     map (λ own. map (λ a. a.0) own) answers ≡ map (λ t. map (λ o. o.0) t.ops) scenario.threads

@@ -4,19 +4,19 @@ use Rattle.app_threads.specs.declared.stop.WorkerStop.{WorkerStop}
 use Rattle.app_threads.specs.declared.stop.WorkerStop.TheVariants as stop
 use Rattle.nook_data.specs.declared.desks.DeskRefused.TheVariants as refused
 use Rattle.nook_data.specs.declared.scenario.Scenario.{Scenario}
-use Rattle.report_text.specs.Whole.{HaveEnds}
-use Rattle.run_ends.specs.Journals.{AreRuns, events_in}
+use Rattle.run_results.specs.Reports.{HaveEnds}
+use Rattle.run_results.specs.Journals.{AreRuns, events_in}
 use Rattle.threaded_run.specs.declared.running.Unheard.{Unheard}
 use Rattle.threaded_run.specs.Threaded.{IsThreaded}
 
--- the scenario was run by its threads, and each part ends in what is told
+-- the scenario was run by its threads, and each part ends as reported
 pub record IsWholeRun (scenario : Scenario) (left : Unheard) : Type 0 where
   pub runs : AreRuns scenario.parts (map events_in left.journals)
   pub ends : HaveEnds scenario.parts left.journals left.ends
   pub threaded : IsThreaded scenario (map events_in left.journals) left.answers
 
--- a worker stopped since memory was wanting
+-- a worker stopped because memory ran out
 abbrev pub IsForMemory : WorkerStop → Type 0
-IsForMemory (stop.Refused work place part (refused.NoMemory call)) = Unit {0}
-IsForMemory (stop.Refused work place part refusal) = ⊥
+IsForMemory (stop.Refused work index part (refused.NoMemory call)) = Unit {0}
+IsForMemory (stop.Refused work index part refusal) = ⊥
 IsForMemory stop.NoMemory = Unit {0}

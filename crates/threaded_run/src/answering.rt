@@ -10,7 +10,7 @@ use nook_data::memory::NoMemory;
 use nook_data::scenario::ThreadSpec;
 use std::alloc::Global;
 
-/// The answers of each thread, by the receipts of its operations, each with its part.
+/// The answers of each thread, each with its part, from the receipts of the thread's operations.
 pub fn answers_of(
     alloc: Global,
     threads: &[ThreadSpec],

@@ -1,4 +1,4 @@
-//! Parts that are taken out of their desks, and what they leave.
+//! Takes parts out of their desks, with what they leave.
 
 ghost use Rattle.std.specs.Prelude.{◌≡◌, IfOk, map};
 ghost use Rattle.app_threads.specs.Order.{all_stamps};
@@ -13,8 +13,8 @@ use nook_data::journal::Journal;
 use nook_data::memory::NoMemory;
 use part_core::Part;
 use part_server::{DeskSeat, PartDesk};
-use report_text::{Journals, PartEnd, PartEnds};
 use run_ends::end_of;
+use run_results::{Journals, PartEnd, PartEnds};
 use std::alloc::Global;
 use std::sync::Wait;
 
@@ -32,13 +32,14 @@ pub struct AllLeft {
     pub ends: PartEnds,
 }
 
-/// Lets the parts of desks take the steps that they have left, and closes each desk by its only seat.
+/// Lets the parts of desks take their remaining steps, and closes each desk through its only seat.
 pub fn leave_all<R: Wait>(rt: &R, alloc: Global, opened: Opened) -> Result<AllLeft, NoMemory>
     requires seats { AreSeats IsDeskSeat opened.desks.items opened.seats.items }
     requires alone { AreAlone (map desk_view opened.seats.items) }
     ensures left { IfOk result (λ left. AreLeft (map desk_spec opened.desks.items)
         (map (λ s. (desk_view s).seen) opened.seats.items) left.journals left.ends) }
-    ensures stamped { IfOk result (λ left. AreStampedFrom (all_stamps (map desk_view opened.seats.items))
+    ensures stamped { IfOk result
+        (λ left. AreStampedFrom (all_stamps (map desk_view opened.seats.items))
         left.journals) }
 {
     let mut journals = Journals::new(alloc);
@@ -56,7 +57,7 @@ pub fn leave_all<R: Wait>(rt: &R, alloc: Global, opened: Opened) -> Result<AllLe
     Ok(AllLeft { journals, ends })
 }
 
-/// Closes a desk by its only seat, behind which its part takes the steps that it has left.
+/// Closes a desk through its only seat, after its part took its remaining steps.
 pub fn leave<R: Wait>(
     rt: &R,
     alloc: Global,
@@ -65,8 +66,10 @@ pub fn leave<R: Wait>(
 ) -> Result<Left, NoMemory>
     requires seat { IsDeskSeat desk seat }
     requires alone { IsAlone (desk_view seat) }
-    ensures left { IfOk result (λ left. IsLeft (desk_spec desk) (desk_view seat).seen left.journal left.end) }
-    ensures stamped { IfOk result (λ left. IsStampedFrom (desk_view seat).stamps left.journal.list) }
+    ensures left { IfOk result
+        (λ left. IsLeft (desk_spec desk) (desk_view seat).seen left.journal left.end) }
+    ensures stamped { IfOk result
+        (λ left. IsStampedFrom (desk_view seat).stamps left.journal.list) }
 {
     let part = close(rt, desk, seat)?;
     // Its contract says that the events lead to the part's state.
@@ -78,7 +81,7 @@ pub fn leave<R: Wait>(
     })
 }
 
-/// Lets a desk's part take the steps that it has left, and closes the desk by its only seat.
+/// Lets a desk's part take its remaining steps, and closes the desk through its only seat.
 fn close<R: Wait>(rt: &R, desk: PartDesk, seat: DeskSeat) -> Result<Part, NoMemory>
     requires seat { IsDeskSeat desk seat }
     requires alone { IsAlone (desk_view seat) }

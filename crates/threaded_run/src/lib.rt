@@ -1,4 +1,4 @@
-//! Runs by threads: each thread of a scenario is a thread of its own, and calls the scenario's parts at their desks.
+//! Runs by threads: each thread of a scenario is an actual thread, and calls the scenario's parts at their desks.
 #![tactic(auto)]
 
 mod answering;

@@ -21,11 +21,12 @@ pub struct Opened {
     pub seats: Vec<DeskSeat>,
 }
 
-/// A desk for each of some valid parts, which are at the start of their boot, with the one seat at each.
+/// A desk for each of these valid parts, which are at the start of their boot, with the only seat at each.
 pub fn open_desks(alloc: Global, parts: &[PartSpec]) -> Result<Opened, NoMemory>
     requires { All IsValidPart parts.now }
     ensures specs { IfOk result (λ opened. map desk_spec opened.desks.items ≡ parts.now) }
-    ensures seats { IfOk result (λ opened. AreSeats IsDeskSeat opened.desks.items opened.seats.items) }
+    ensures seats { IfOk result
+        (λ opened. AreSeats IsDeskSeat opened.desks.items opened.seats.items) }
     ensures new { IfOk result (λ opened. AreNew (map desk_view opened.seats.items)) }
 {
     let mut desks = Vec::with_capacity(alloc, parts.len())?;
@@ -38,7 +39,7 @@ pub fn open_desks(alloc: Global, parts: &[PartSpec]) -> Result<Opened, NoMemory>
     Ok(Opened { desks, seats })
 }
 
-/// A desk for a valid part, which is at the start of its boot, and the one seat at it.
+/// A desk for a valid part, which is at the start of its boot, and the only seat at it.
 pub fn open_desk(alloc: Global, spec: &PartSpec) -> Result<(PartDesk, DeskSeat), NoMemory>
     requires { IsValidPart spec.now }
     ensures seat { IfOk result (λ made. IsDeskSeat made.0 made.1) }

@@ -1,4 +1,4 @@
--- Each step of a turn keeps its rule.
+-- Each step of a turn preserves its rule.
 use Rattle.std.proofs.Common.{◌≡◌, ◌≢◌, ℕ, ◌+◌, ◌-◌, ◌*◌, ◌/◌, ◌%◌, ◌^◌, ◌<◌, ◌≤◌, eqb, Bool, true, false, List, [], ◌∷◌, ◌++◌, length, get_or, set, Option, Some, None, All, Contains, sym, refl, ap, ◌∙◌, subst, ⊎_elim, arith, append-nil, length-append, length-set}
 use Rattle.std.proofs.lemmas.List.Elements.{All-append, All-push, All-contains, Contains-append_cases, Contains-append_left, Contains-push, Contains-push_cases}
 use mathlib.Core.List.{IsPrefix}
@@ -15,16 +15,16 @@ use Rattle.shares.specs.Shares.{owns}
 use Rattle.shares.proofs.Shares.{half_in, half_has, halves_apart, in_left, in_one}
 use Rattle.turn_lock.specs.declared.view.View.{View}
 use Rattle.turn_lock.specs.Views.{longer, opener, took, committed, gave, halved, newcomer, spent, joined, learnt}
-use Rattle.turn_lock.specs.Seats.{IsAlone, Tally}
+use Rattle.turn_lock.specs.Seats.{IsAlone, MadeIsSeen}
 use Rattle.turn_lock.specs.Turns.{bit, carried_list, Fits, Apart, AreViews, AreMade, IsTurn, Takes, Commits, Gives, Looks, Learns}
 use Rattle.turn_lock.proofs.Prefixes.{prefix_refl, prefix_nil, prefix_trans, prefix_snoc, prefix_length, longer_begins, shorter_begins, longer_long}
-use Rattle.turn_lock.proofs.ViewLists.{never, set_there, only, none_in, views_set, views_more, holds_set, same_far, spent_fits, spent_apart, all_seen, tally_of, made_set, made_more, made_join}
+use Rattle.turn_lock.proofs.ViewLists.{never, set_there, only, none_in, views_set, views_more, holds_set, same_far, spent_fits, spent_apart, all_seen, made_is_seen_of, made_set, made_more, made_join}
 
 one_bit : (b : Bool) → bit b ≤ 1
 one_bit true = omega arith
 one_bit false = omega arith
 
--- an even word says that the turn is in
+-- if the word is even, the turn is not out
 even_in : (n : ℕ) (b : Bool) → (2 * n + bit b) % 2 ≡ 0 → b ≡ false
 even_in n true e = absurd (omega arith)
 even_in n false e = refl
@@ -49,8 +49,8 @@ module _ {T E O : Type 0} (list : T → List E) (origin : T → O) (home : O) (s
   not_gone v u o own lost = absurd (cc)
 
   -- what every seat may claim
-  tally : (s : St) (k : Rule s) (id : ℕ) (v : V) (o : O) → get_elem? s.views id ≡ some v → v.origin ≡ Some o → Tally v
-  tally s k id v o at own = tally_of k.all home start k.out k.holder s.views k.views k.made id v o at own
+  made_is_seen : (s : St) (k : Rule s) (id : ℕ) (v : V) (o : O) → get_elem? s.views id ≡ some v → v.origin ≡ Some o → MadeIsSeen v
+  made_is_seen s k id v o at own = made_is_seen_of k.all home start k.out k.holder s.views k.views k.made id v o at own
 
   sees : (s : St) (k : Rule s) (id : ℕ) (v : V) (o : O) → get_elem? s.views id ≡ some v → v.origin ≡ Some o → IsAlone v → v.seen ≡ k.all
   sees s k id v o at own alone = all_seen k.all home start k.out k.holder s.views k.views k.made id v o at own alone
@@ -74,7 +74,7 @@ module _ {T E O : Type 0} (list : T → List E) (origin : T → O) (home : O) (s
     views = record {
       fits = λ j v e. subst (λ (z : V). Fits (list x) home start false 0 j z) (only (opener (list x) home) v j e).1 record {
         seen = prefix_refl (list x);
-        told = prefix_nil (list x);
+        pending = prefix_nil (list x);
         made = λ k d lt. absurd (omega arith);
         origin = λ o e. cc;
         begins = λ o e. (begun, omega arith);
@@ -106,7 +106,7 @@ module _ {T E O : Type 0} (list : T → List E) (origin : T → O) (home : O) (s
     made = still_made s k id v w at same;
   }
 
-  -- one view changes, makes no place and gains no point
+  -- one view changes, but gains neither a number in `made` nor a point of a share
   kept_views : (s : St) (k : Rule s) (id : ℕ) (v w : V) → get_elem? s.views id ≡ some v → w.made ≡ v.made → ((point : ℕ → Bool) → owns w.share point ≡ true → owns v.share point ≡ true)
       → Fits k.all home start k.out k.holder id w → AreViews k.all home start k.out k.holder (set s.views id w)
   kept_views s k id v w at made less mine = views_set k.all k.all home start k.out k.out k.holder k.holder id s.views w k.views mine (λ j u _ e. k.views.fits j u e)
@@ -127,7 +127,7 @@ module _ {T E O : Type 0} (list : T → List E) (origin : T → O) (home : O) (s
           seen = let long = prefix_length m.0.seen k.all f.seen in omega arith;
           taken = λ h. half ∙ sym (ap length (f.turn h).2);
           alone = λ h. half ∙ sym (ap length (sees s k id m.0 o at own h));
-          tally = tally s k id m.0 o at own;
+          made_is_seen = made_is_seen s k id m.0 o at own;
         },
       )
 
@@ -140,7 +140,7 @@ module _ {T E O : Type 0} (list : T → List E) (origin : T → O) (home : O) (s
         tt,
         unmoved s k id m.1 m.0 w at (λ h. h) refl (kept_views s k id m.0 w at refl (λ _ a. a) record {
           seen = f.seen;
-          told = prefix_nil m.0.seen;
+          pending = prefix_nil m.0.seen;
           made = f.made;
           origin = f.origin;
           begins = f.begins;
@@ -148,10 +148,10 @@ module _ {T E O : Type 0} (list : T → List E) (origin : T → O) (home : O) (s
           gone = λ lost. not_gone m.0 w o own lost;
           turn = f.turn;
         }),
-        (refl, f.told, let t = tally s k id m.0 o at own in record { within = t.within; all = t.all }),
+        (refl, f.pending, let t = made_is_seen s k id m.0 o at own in record { within = t.within; all = t.all }),
       )
 
-  -- the seat can pick a view and an act at a step that makes the word n
+  -- for a step that sets the word to n, the seat can choose a view and an act
   abbrev Goes : St → ℕ → M → ℕ → (M → Type 0) → Type 0
   Goes s id m n then = (w : V) × (a : Act (Option T)) × Valid s.homes m.1 a × Rule (stepped s 0 n id m.1 w a) × then (w, carried_after m.1 a)
 
@@ -178,7 +178,7 @@ module _ {T E O : Type 0} (list : T → List E) (origin : T → O) (home : O) (s
           held = λ _. (w, set_there s.views id m.0 w at, refl);
           views = views_set k.all k.all home start k.out true k.holder id id s.views w k.views record {
             seen = f.seen;
-            told = f.told;
+            pending = f.pending;
             made = f.made;
             origin = f.origin;
             begins = f.begins;
@@ -187,7 +187,7 @@ module _ {T E O : Type 0} (list : T → List E) (origin : T → O) (home : O) (s
             turn = λ _. (refl, refl, is);
           } (λ j u ne e. let g = k.views.fits j u e in record {
             seen = g.seen;
-            told = g.told;
+            pending = g.pending;
             made = g.made;
             origin = g.origin;
             begins = g.begins;
@@ -206,7 +206,7 @@ module _ {T E O : Type 0} (list : T → List E) (origin : T → O) (home : O) (s
             home = λ h e. (k.slot isin).3 ∙ sym (f.origin h e);
             alone = λ a. is ∙ sym (sees s k id m.0 o at own a);
             short = let small = k.short in omega (arith, ap length is);
-            tally = let t = tally s k id m.0 o at own in record { within = t.within; all = t.all };
+            made_is_seen = let t = made_is_seen s k id m.0 o at own in record { within = t.within; all = t.all };
           }),
           λ miss. absurd (miss hit),
         ),
@@ -224,7 +224,7 @@ module _ {T E O : Type 0} (list : T → List E) (origin : T → O) (home : O) (s
       (λ hit. wins slots id old m o empty own s k at hit (even_in (length k.all) k.out (ap (λ (z : ℕ). z % 2) (sym (word_at s k) ∙ hit) ∙ even)))
       (λ miss. misses slots id old m o own s k at miss)
 
-  -- beside a seat that has the turn, no other has it
+  -- if a seat has the turn, no other seat has it
   no_turn : (s : St) (k : Rule s) (id j : ℕ) (v u : V) → v.has ≡ true → get_elem? s.views id ≡ some v → j ≢ id → get_elem? s.views j ≡ some u → u.has ≡ true → ⊥
   no_turn s k id j v u has at ne e h = ne (((k.views.fits j u e).turn h).0 ∙ sym ((k.views.fits id v at).turn has).0)
 
@@ -237,12 +237,12 @@ module _ {T E O : Type 0} (list : T → List E) (origin : T → O) (home : O) (s
       let more : all ≡ k.all ++ x ∷ [] = is ∙ ap (λ (z : List E). z ++ (x ∷ [])) t.2 in
       let grows : IsPrefix k.all all = prefix_snoc k.all all x more in
       let one_more : length all ≡ length k.all + 1 = omega (arith, ap length more, length-append k.all (x ∷ [])) in
-      let told : IsPrefix v.told all = prefix_trans v.told v.seen all f.told (prefix_trans v.seen k.all all f.seen grows) in
+      let pending : IsPrefix v.pending all = prefix_trans v.pending v.seen all f.pending (prefix_trans v.seen k.all all f.seen grows) in
       let long : length v.seen ≤ length k.all = prefix_length v.seen k.all f.seen in
       let begun : start ≤ length v.seen = (f.begins o own).1 in
       views_set k.all all home start k.out k.out k.holder k.holder id s.views (committed v all) k.views record {
         seen = prefix_refl all;
-        told = told;
+        pending = pending;
         made = All-push (λ p. (start < p) × (p ≤ length all)) v.made (length all) (All-more start (length v.seen) (length all) v.made (omega arith) f.made) (omega arith, omega arith);
         origin = f.origin;
         begins = λ h e. ((f.begins h e).0, omega arith);
@@ -251,7 +251,7 @@ module _ {T E O : Type 0} (list : T → List E) (origin : T → O) (home : O) (s
         turn = λ _. (t.0, t.1, refl);
       } (λ j u ne e. let g = k.views.fits j u e in record {
         seen = prefix_trans u.seen k.all all g.seen grows;
-        told = g.told;
+        pending = g.pending;
         made = g.made;
         origin = g.origin;
         begins = g.begins;
@@ -270,7 +270,7 @@ module _ {T E O : Type 0} (list : T → List E) (origin : T → O) (home : O) (s
         record { share = λ point a b. far.share point b a; made = λ p a b. fresh p b a },
       ))
 
-  -- and the new place was made too
+  -- and the new entry was made through a seat too
   commit_made : (s : St) (k : Rule s) (id : ℕ) (v : V) (all : List E) → length all ≡ length k.all + 1 → get_elem? s.views id ≡ some v → AreMade start (length all) (set s.views id (committed v all))
   commit_made s k id v all more at p past le = dite (ℕ_discrete (length all) p)
       (λ (e : length all ≡ p). (id, committed v all, set_there s.views id v (committed v all) at, subst (Contains (v.made ++ length all ∷ [])) e (Contains-push v.made (length all))))
@@ -312,7 +312,7 @@ module _ {T E O : Type 0} (list : T → List E) (origin : T → O) (home : O) (s
       let grows : IsPrefix v.seen v.taken = subst (IsPrefix v.seen) (sym t.2) f.seen in
       views_set k.all k.all home start k.out false k.holder k.holder id s.views (gave v) k.views record {
         seen = ([], append-nil v.taken ∙ t.2);
-        told = prefix_trans v.told v.seen v.taken f.told grows;
+        pending = prefix_trans v.pending v.seen v.taken f.pending grows;
         made = All-more start (length v.seen) (length v.taken) v.made (prefix_length v.seen v.taken grows) f.made;
         origin = f.origin;
         begins = λ h e. let b = f.begins h e in (b.0, let begun = b.1 in let long = prefix_length v.seen v.taken grows in omega arith);
@@ -321,7 +321,7 @@ module _ {T E O : Type 0} (list : T → List E) (origin : T → O) (home : O) (s
         turn = λ h. never h;
       } (λ j u ne e. let g = k.views.fits j u e in record {
         seen = g.seen;
-        told = g.told;
+        pending = g.pending;
         made = g.made;
         origin = g.origin;
         begins = g.begins;
@@ -355,7 +355,7 @@ module _ {T E O : Type 0} (list : T → List E) (origin : T → O) (home : O) (s
           views = give_views s k id v o has own at;
           made = still_made s k id v (gave v) at refl;
         },
-        (refl, tally_of k.all home start false k.holder (set s.views id (gave v)) (give_views s k id v o has own at) (still_made s k id v (gave v) at refl) id (gave v) o (set_there s.views id v (gave v) at) own),
+        (refl, made_is_seen_of k.all home start false k.holder (set s.views id (gave v)) (give_views s k id v o has own at) (still_made s k id v (gave v) at refl) id (gave v) o (set_there s.views id v (gave v) at) own),
       )
 
   -- the views after a split
@@ -366,7 +366,7 @@ module _ {T E O : Type 0} (list : T → List E) (origin : T → O) (home : O) (s
       let right : V = newcomer v in
       let first : AreViews k.all home start k.out k.holder (set s.views id left) = kept_views s k id v left at refl (half_in false v.share) record {
         seen = f.seen;
-        told = f.told;
+        pending = f.pending;
         made = f.made;
         origin = f.origin;
         begins = f.begins;
@@ -376,7 +376,7 @@ module _ {T E O : Type 0} (list : T → List E) (origin : T → O) (home : O) (s
       } in
       views_more k.all home start k.out k.holder (set s.views id left) right first (λ j. record {
         seen = f.seen;
-        told = prefix_nil v.seen;
+        pending = prefix_nil v.seen;
         made = λ i d lt. absurd (omega arith);
         origin = f.origin;
         begins = f.begins;
@@ -421,7 +421,7 @@ module _ {T E O : Type 0} (list : T → List E) (origin : T → O) (home : O) (s
       let L : ℕ = length (longer v.seen w.seen) in
       views_set k.all k.all home start k.out k.out k.holder k.holder id (set s.views other spent) J first record {
         seen = longer_begins v.seen w.seen k.all f.seen g.seen;
-        told = shorter_begins v.seen w.seen k.all f.seen g.seen;
+        pending = shorter_begins v.seen w.seen k.all f.seen g.seen;
         made = All-append (λ p. (start < p) × (p ≤ L)) v.made w.made (All-more start (length v.seen) L v.made long.0 f.made) (All-more start (length w.seen) L w.made long.1 g.made);
         origin = f.origin;
         begins = λ h e. let b = f.begins h e in (b.0, let begun = b.1 in let longer = long.0 in omega arith);

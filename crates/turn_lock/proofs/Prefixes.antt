@@ -1,4 +1,4 @@
--- Beginnings of lists, and the longer of two.
+-- Prefixes of lists, and the longer of two lists.
 use Rattle.std.proofs.Common.{◌≡◌, ℕ, ◌≤◌, ◌<◌, Bool, true, false, cond, nat_lt, List, [], ◌∷◌, ◌++◌, length, sym, refl, ap, ◌∙◌, append_assoc, append-nil, length-append, arith}
 use Rattle.std.proofs.lemmas.Bool.Decides.{nat_tests}
 use mathlib.Core.List.{IsPrefix}
@@ -26,7 +26,7 @@ module _ {E : Type 0} where
   pub prefix_length : (a b : List E) → IsPrefix a b → length a ≤ length b
   prefix_length a b p = omega (arith, length-append a p.0, ap length p.1)
 
-  -- of two beginnings of one list the shorter begins the longer
+  -- of two prefixes of one list, the shorter is a prefix of the longer
   pub prefix_among : (a b all : List E) → IsPrefix a all → IsPrefix b all → length a ≤ length b → IsPrefix a b
   prefix_among [] b all p q h = prefix_nil b
   prefix_among (x ∷ xs) [] all p q h = absurd (omega arith)
@@ -54,6 +54,6 @@ module _ {E : Type 0} where
   pub longer_long : (a b : List E) → (length a ≤ length (longer a b)) × (length b ≤ length (longer a b))
   longer_long a b = by_length (λ l s. (length a ≤ length l) × (length b ≤ length l)) a b (λ h. (omega arith, omega arith)) (λ h. (omega arith, omega arith))
 
-  -- where the shorter begins the longer, both do
+  -- if the shorter list is a prefix of the longer, both lists are
   pub both_begin : (a b : List E) → IsPrefix (shorter a b) (longer a b) → IsPrefix a (longer a b) × IsPrefix b (longer a b)
   both_begin a b = by_length (λ l s. IsPrefix s l → IsPrefix a l × IsPrefix b l) a b (λ _ p. (p, prefix_refl b)) (λ _ p. (prefix_refl a, p))

@@ -1,4 +1,4 @@
--- The views of all seats, as one of them changes or comes.
+-- The views of all seats, when one of them changes or a new one is added.
 use Rattle.std.proofs.Common.{◌≡◌, ◌≢◌, ℕ, zero, suc, ◌<◌, ◌≤◌, Bool, true, false, List, [], ◌∷◌, ◌++◌, length, set, Option, Some, None, All, Contains, ◌⊎◌, inl, inr, sym, refl, ap, ◌∙◌, subst, ⊎_elim, append-nil, length-append, lt_of_not-le, arith}
 use Rattle.std.proofs.lemmas.List.Elements.{All-contains, Contains-append_left, Contains-append_right}
 use mathlib.Core.List.{IsPrefix}
@@ -9,7 +9,7 @@ use lib.ListN.{get_elem?}
 use Rattle.atomic_table.proofs.Lists.{at_set, at_longer, set_else}
 use Rattle.shares.specs.Shares.{owns}
 use Rattle.turn_lock.specs.declared.view.View.{View}
-use Rattle.turn_lock.specs.Seats.{IsAlone, Tally}
+use Rattle.turn_lock.specs.Seats.{IsAlone, MadeIsSeen}
 use Rattle.turn_lock.specs.Views.{took, spent, joined}
 use Rattle.turn_lock.specs.Turns.{Fits, Apart, AreViews, AreMade}
 use Rattle.turn_lock.proofs.Prefixes.{prefix_nil, prefix_length}
@@ -30,14 +30,14 @@ module _ {A : Type 0} where
   pub none_in : (x : A) → Contains [] x → ⊥
   none_in x h = let lt = h.1 in omega arith
 
-  -- what stands in a list that became longer by one, and where the new one is
+  -- an item of a list that grew by one was there before, or is the new one at the end
   pub at_end : (l : List A) (a b : A) (j : ℕ) → get_elem? (l ++ a ∷ []) j ≡ some b → (get_elem? l j ≡ some b) ⊎ ((j ≡ length l) × (a ≡ b))
   at_end [] a b zero e = inr (refl, some-injective a b e)
   at_end [] a b (suc j) e = absurd (some-ne-none b (sym e))
   at_end (x ∷ xs) a b zero e = inl e
   at_end (x ∷ xs) a b (suc j) e = ⊎_elim (λ t. inl t) (λ t. inr (ap suc t.0, t.1)) (at_end xs a b j e)
 
-  -- a beginning that is not shorter is the whole list
+  -- a prefix that is not shorter is the whole list
   pub all_begun : (a b : List A) → IsPrefix a b → length b ≤ length a → a ≡ b
   all_begun a b p le = none_left a p.0 b p.1 le
     where
@@ -95,7 +95,7 @@ module _ {E O : Type 0} where
       (w, subst (λ (i : ℕ). get_elem? (set vs id w) i ≡ some w) (sym e) (set_there vs id v w at), more (sym (ap (λ (z : View E O). z.has) same) ∙ has)))
       (λ (ne : h ≢ id). (u, set_else vs id h w ne ∙ there, has))
 
-  -- a step that makes no place and adds no point keeps a seat apart from each other one
+  -- a step that leaves `made` as it is and adds no point keeps a seat apart from every other one
   pub same_far : (v w u : View E O) → w.made ≡ v.made → ((point : ℕ → Bool) → owns w.share point ≡ true → owns v.share point ≡ true) → Apart v u → Apart u v → Apart w u × Apart u w
   same_far v w u made less vu uv = (
     record { share = λ f a b. vu.share f (less f a) b; made = λ p a b. vu.made p (subst (λ (l : List ℕ). Contains l p) made a) b },
@@ -105,7 +105,7 @@ module _ {E O : Type 0} where
   pub spent_fits : (all : List E) (home : O) (start : ℕ) (out : Bool) (holder j : ℕ) → Fits all home start out holder j spent
   spent_fits all home start out holder j = record {
     seen = prefix_nil all;
-    told = prefix_nil [];
+    pending = prefix_nil [];
     made = λ k d lt. absurd (omega arith);
     origin = λ o e. absurd (cc);
     begins = λ o e. absurd (cc);
@@ -126,13 +126,13 @@ module _ {E O : Type 0} where
       cases None e = nowhere e
       cases (Some o) e = from o e
 
-  -- beside it each other one is spent
+  -- if a seat is alone, every other seat is spent
   pub others_spent : (all : List E) (home : O) (start : ℕ) (out : Bool) (holder : ℕ) (vs : List (View E O)) → AreViews all home start out holder vs
       → (i j : ℕ) (v u : View E O) → get_elem? vs i ≡ some v → j ≢ i → get_elem? vs j ≡ some u → IsAlone v → u ≡ spent
   others_spent all home start out holder vs r i j v u at ne there alone = let f = r.fits j u there in
       by_origin u (u ≡ spent) (λ lost. f.gone lost) (λ o from. let point = f.owner o from in absurd ((r.apart i j v u (λ z. ne (sym z)) at there).share point.0 (alone point.0) point.1))
 
-  -- so what was made was made through it
+  -- so all entries that were made were made through it
   pub all_made : (all : List E) (home : O) (start : ℕ) (out : Bool) (holder : ℕ) (vs : List (View E O)) → AreViews all home start out holder vs → AreMade start (length all) vs
       → (i : ℕ) (v : View E O) → get_elem? vs i ≡ some v → IsAlone v → (p : ℕ) → start < p → p ≤ length all → Contains v.made p
   all_made all home start out holder vs r made i v at alone p past le = let m = made p past le in
@@ -140,7 +140,7 @@ module _ {E O : Type 0} where
       (λ (e : m.0 ≡ i). let same : m.1 ≡ v = some-injective m.1 v (sym m.2 ∙ (ap (get_elem? vs) e ∙ at)) in subst (λ (z : View E O). Contains z.made p) same m.3)
       (λ (ne : m.0 ≢ i). absurd (none_in p (subst (λ (z : View E O). Contains z.made p) (others_spent all home start out holder vs r i m.0 v m.1 at ne m.2 alone) m.3)))
 
-  -- and it has seen all
+  -- and it has seen all entries
   pub all_seen : (all : List E) (home : O) (start : ℕ) (out : Bool) (holder : ℕ) (vs : List (View E O)) → AreViews all home start out holder vs → AreMade start (length all) vs
       → (i : ℕ) (v : View E O) (o : O) → get_elem? vs i ≡ some v → v.origin ≡ Some o → IsAlone v → v.seen ≡ all
   all_seen all home start out holder vs r made i v o at from alone = all_begun v.seen all f.seen (no_more (length all) refl)
@@ -156,20 +156,20 @@ module _ {E O : Type 0} where
           let past : start < n = let lt = lt_of_not-le more in let begun = long in omega arith in
           let last = All-contains (λ q. (start < q) × (q ≤ length v.seen)) v.made n f.made (all_made all home start out holder vs r made i v at alone n past (omega arith)) in absurd (more last.1))
 
-  pub tally_of : (all : List E) (home : O) (start : ℕ) (out : Bool) (holder : ℕ) (vs : List (View E O)) → AreViews all home start out holder vs → AreMade start (length all) vs
-      → (i : ℕ) (v : View E O) (o : O) → get_elem? vs i ≡ some v → v.origin ≡ Some o → Tally v
-  tally_of all home start out holder vs r made i v o at from = let f = r.fits i v at in let e = (f.begins o from).0 in record {
+  pub made_is_seen_of : (all : List E) (home : O) (start : ℕ) (out : Bool) (holder : ℕ) (vs : List (View E O)) → AreViews all home start out holder vs → AreMade start (length all) vs
+      → (i : ℕ) (v : View E O) (o : O) → get_elem? vs i ≡ some v → v.origin ≡ Some o → MadeIsSeen v
+  made_is_seen_of all home start out holder vs r made i v o at from = let f = r.fits i v at in let e = (f.begins o from).0 in record {
     within = subst (λ (n : ℕ). All (λ p. (n < p) × (p ≤ length v.seen)) v.made) (sym e) f.made;
     all = λ alone p past le. let long = prefix_length v.seen all f.seen in all_made all home start out holder vs r made i v at alone p (omega arith) (omega arith);
   }
 
-  -- a take changes nothing of that
-  pub tally_took : (v w : View E O) (all : List E) → w ≡ took v all → Tally w → Tally v
-  tally_took v w all same t = let u : Tally (took v all) = subst Tally same t in record { within = u.within; all = u.all }
+  -- what a seat may claim after a take, it could claim before
+  pub made_is_seen_took : (v w : View E O) (all : List E) → w ≡ took v all → MadeIsSeen w → MadeIsSeen v
+  made_is_seen_took v w all same t = let u : MadeIsSeen (took v all) = subst MadeIsSeen same t in record { within = u.within; all = u.all }
 
-  -- ---- a place that was made stays so
+  -- ---- an entry that was made stays made
 
-  -- a view changes, and has each place that it had
+  -- a view changes, and keeps every number that it had in `made`
   pub made_set : (start last : ℕ) (vs : List (View E O)) (i : ℕ) (v w : View E O) → get_elem? vs i ≡ some v → ((p : ℕ) → Contains v.made p → Contains w.made p)
       → AreMade start last vs → AreMade start last (set vs i w)
   made_set start last vs i v w at more made p past le = let m = made p past le in
@@ -177,7 +177,7 @@ module _ {E O : Type 0} where
       (λ (e : m.0 ≡ i). let same : m.1 ≡ v = some-injective m.1 v (sym m.2 ∙ (ap (get_elem? vs) e ∙ at)) in (i, w, set_there vs i v w at, more p (subst (λ (z : View E O). Contains z.made p) same m.3)))
       (λ (ne : m.0 ≢ i). (m.0, m.1, set_else vs i m.0 w ne ∙ m.2, m.3))
 
-  -- a seat comes
+  -- a seat is added
   pub made_more : (start last : ℕ) (vs ws : List (View E O)) → AreMade start last vs → AreMade start last (vs ++ ws)
   made_more start last vs ws made p past le = let m = made p past le in (m.0, m.1, at_longer vs ws m.0 m.1 m.2, m.3)
 

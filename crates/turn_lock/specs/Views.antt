@@ -1,9 +1,9 @@
--- How a step changes the view of the seat that makes it. What is not named stays.
+-- How a step changes the view of the seat that takes it. Fields that are not named stay the same.
 use Rattle.std.specs.Prelude.{List, [], ◌∷◌, ◌++◌, length, true, false, cond, nat_lt, Some, None}
 use Rattle.shares.specs.Shares.{half, whole}
 use Rattle.turn_lock.specs.declared.view.View.{View}
 
--- the longer of two lists; the first where they are as long
+-- the longer of two lists; the first if they have the same length
 abbrev pub longer : {E : Type 0} → List E → List E → List E
 longer xs ys = cond (nat_lt (length xs) (length ys)) ys xs
 
@@ -17,7 +17,7 @@ module _ {E O : Type 0} where
   opener all home = record {
     origin = Some home;
     seen = all;
-    told = [];
+    pending = [];
     made = [];
     start = length all;
     share = whole;
@@ -29,7 +29,7 @@ module _ {E O : Type 0} where
   abbrev pub took : View E O → List E → View E O
   took v all = record v { has = true; taken = all }
 
-  -- it committed one entry, with which these are all
+  -- it committed one entry; these are all entries after that
   abbrev pub committed : View E O → List E → View E O
   committed v all = record v { seen = all; made = v.made ++ length all ∷ []; taken = all }
 
@@ -46,7 +46,7 @@ module _ {E O : Type 0} where
   newcomer v = record {
     origin = v.origin;
     seen = v.seen;
-    told = [];
+    pending = [];
     made = [];
     start = v.start;
     share = half true v.share;
@@ -56,17 +56,17 @@ module _ {E O : Type 0} where
 
   -- a seat that was joined into another: it has no share left
   abbrev pub spent : View E O
-  spent = record { origin = None; seen = []; told = []; made = []; start = 0; share = []; has = false; taken = [] }
+  spent = record { origin = None; seen = []; pending = []; made = []; start = 0; share = []; has = false; taken = [] }
 
-  -- it took in a seat with the view w: the longer list is seen, and the places and the shares are those of both
+  -- a seat with the view w was joined into it: it has seen the longer list, and has what both made and both shares
   abbrev pub joined : View E O → View E O → View E O
   joined v w = record v {
     seen = longer v.seen w.seen;
-    told = shorter v.seen w.seen;
+    pending = shorter v.seen w.seen;
     made = v.made ++ w.made;
     share = v.share ++ w.share;
   }
 
-  -- it knows that what it was told begins what it has seen
+  -- it knows that its pending list is a prefix of what it has seen
   abbrev pub learnt : View E O → View E O
-  learnt v = record v { told = [] }
+  learnt v = record v { pending = [] }

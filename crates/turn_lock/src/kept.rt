@@ -1,18 +1,18 @@
 //! The values that a turn keeps.
 ghost use Rattle.std.specs.Prelude.{◌≡◌, List, length};
 
-/// A value that stands for a list of entries and has an origin, as an open journal does.
+/// A value that represents a list of entries and has an origin, as an open journal does.
 ///
-/// Entries are added at the end, one at each commit, and the origin never changes. Both are plain data that exist in
-/// contracts alone.
+/// Entries are added at the end, one at each commit, and the origin never changes. Both are plain data that exist only
+/// in contracts.
 pub trait Kept: Send + Drop {
     /// What one commit adds.
     type Entry;
 
-    /// What the value began from.
+    /// What the value started from.
     type Origin;
 
-    /// The entries that the value stands for, the oldest first.
+    /// The entries that the value represents, oldest first.
     ghost list: { Self → List Self.Entry };
 
     /// Where the value comes from.

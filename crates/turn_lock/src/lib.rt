@@ -1,9 +1,9 @@
-//! A lock that knows its journal: one thread at a time has the value, each turn commits one entry, and what every
-//! thread has seen is a beginning of one list.
+//! A lock that knows its journal: one thread at a time has the value, each turn commits one entry, and every thread has
+//! seen a prefix of one list.
 //!
-//! A `Turn` keeps one value, which stands for a list of entries (`Kept`). A thread takes part through a `TurnSeat`.
-//! The lock has one word, twice the number of entries, plus one while the turn is out, and one slot, where the value
-//! lies while the turn is in.
+//! A `Turn` keeps one value, which represents a list of entries (`Kept`). A thread uses it through a `TurnSeat`.
+//! The lock has one word: twice the number of entries, plus one while the turn is out. Its one slot has the value while
+//! the turn is in.
 #![tactic(auto)]
 
 mod kept;

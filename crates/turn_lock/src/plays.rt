@@ -1,4 +1,4 @@
-//! What each step on the word tells the seat that makes it.
+//! What a seat learns from each step that it takes on the word.
 ghost use Rattle.turn_lock.specs.Turns.{Takes, Commits, Gives, Looks, Learns};
 ghost use Rattle.turn_lock.specs.Views.{halved, newcomer, joined, spent};
 
@@ -6,7 +6,7 @@ use crate::kept::Kept;
 use crate::view::View;
 use atomic_table::{Join, Play, Split};
 
-// The word goes from even to the next odd number, or stays.
+// The word changes from an even number to the next odd one, or stays the same.
 pub(crate) struct Take;
 
 impl<T: Kept> Play<Option<T>, View<T::Entry, T::Origin>> for Take {
@@ -34,7 +34,7 @@ impl<T, E, O> Play<Option<T>, View<E, O>> for Look {
     ghost then = { Looks };
 }
 
-// A load, at which the seat learns that what it was told begins what it has seen.
+// A load, from which the seat learns that its pending list is a prefix of what it has seen.
 pub(crate) struct Learn;
 
 impl<T, E, O> Play<Option<T>, View<E, O>> for Learn {
@@ -50,7 +50,7 @@ impl<E, O> Split<View<E, O>> for Cut {
     ghost right = { newcomer };
 }
 
-// Two seats made one.
+// One seat is joined into another.
 pub(crate) struct Merge;
 
 impl<E, O> Join<View<E, O>> for Merge {

@@ -3,7 +3,7 @@ ghost use Rattle.std.specs.Prelude.{◌≡◌, ℕ, ◌+◌, ◌*◌, ◌/◌, �
 ghost use Rattle.std.specs.Prelude.{length, IfOk};
 ghost use mathlib.Core.List.{IsPrefix};
 ghost use Rattle.shares.specs.Shares.{owns};
-ghost use Rattle.turn_lock.specs.Seats.{seat_view, IsAlone, IsSeatOf, Tally};
+ghost use Rattle.turn_lock.specs.Seats.{seat_view, IsAlone, IsSeatOf, MadeIsSeen};
 ghost use Rattle.turn_lock.specs.Views.{opener, took, committed, gave, halved, newcomer, joined, learnt};
 
 use crate::kept::Kept;
@@ -16,7 +16,7 @@ use std::marker::{Model, PhantomData};
 use std::snapshot::Snapshot;
 use std::sync::Wait;
 
-/// The rule of a turn: one value, one holder, and one list that every seat has seen a beginning of.
+/// The rule of a turn: one value, one holder, and one list, of which every seat has seen a prefix.
 pub struct OneTurn<T> {
     value: PhantomData<T>,
 }
@@ -30,8 +30,8 @@ impl<T: Kept> TableRule<Option<T>, View<T::Entry, T::Origin>, Snapshot<T>> for O
     ghost first = { λ k. opener (T.list k.value) (T.origin k.value) };
 }
 
-/// A place at a turn, which one thread has at a time. It has no bytes, and its view says what the thread has seen and
-/// made.
+/// A caller's handle to a turn, which one thread has at a time. It takes no bytes, and its view says what the thread
+/// has seen and made.
 pub type TurnSeat<T> = Seat<Option<T>, View<<T as Kept>::Entry, <T as Kept>::Origin>>;
 
 type TurnTable<T> = Table<
@@ -42,9 +42,9 @@ type TurnTable<T> = Table<
     Global,
 >;
 
-/// A lock round one value. Threads share it by reference, and each works through a seat of its own.
+/// A lock around one value. Threads share it by reference, and each uses its own seat.
 ///
-/// No contract says that a call which waits ever returns, or in which order threads get the turn.
+/// No contract promises that a waiting call ever returns, or in which order threads get the turn.
 #[derive(Drop)]
 pub struct Turn<T: Kept> {
     table: TurnTable<T>,
@@ -66,9 +66,9 @@ impl<T: Kept> Model for Turn<T> {
 }
 
 impl<T: Kept> Turn<T> {
-    /// Makes a turn round a value of fewer than 2^62 entries, and its first seat, which is alone until it is split.
+    /// Makes a turn for a value with fewer than 2^62 entries, and its first seat, which is alone until it is split.
     ///
-    /// At `NoMemory` the value is dropped.
+    /// On `NoMemory` the value is dropped.
     pub fn new(alloc: Global, value: T) -> Result<(Turn<T>, TurnSeat<T>), NoMemory>
         requires short { length (T.list value) < 2 ^ 62 }
         ensures seat { IfOk result (λ r. IsSeatOf r.0 r.1) }
@@ -88,10 +88,10 @@ impl<T: Kept> Turn<T> {
         Ok((Turn { table }, seat))
     }
 
-    /// Waits for the turn and gives the value. Its list begins with all that the seat has seen, and is just that where
-    /// the seat is alone.
+    /// Waits for the turn and returns the value. Its list begins with all that the seat has seen, and is exactly that
+    /// if the seat is alone.
     ///
-    /// While the turn is out the thread sleeps. It may wait for ever.
+    /// The thread sleeps while the turn is out. It may wait forever.
     pub fn take(&self, rt: &impl Wait, seat: &mut TurnSeat<T>) -> T
         requires seat { IsSeatOf self.now seat.old }
         requires free { (seat_view seat.old).has ≡ false }
@@ -101,13 +101,13 @@ impl<T: Kept> Turn<T> {
         ensures origin { T.origin result ≡ self.now.home }
         ensures alone { IsAlone (seat_view seat.old) → T.list result ≡ (seat_view seat.old).seen }
         ensures short { length (T.list result) < 2 ^ 62 }
-        ensures made { Tally (seat_view seat.new) }
+        ensures made { MadeIsSeen (seat_view seat.new) }
     {
         let shared = &self.table.shared;
         for _ in rt.forever() {
             let word = shared.peek(0);
             if word % 2 == 1 {
-                // Only the low half of the word counts for a sleep, and each give changes it.
+                // The thread sleeps on the low half of the word only, and each give changes it.
                 shared.park(rt, 0, (word % (1 << 32)) as u32);
             } else if shared.compare_exchange::<Take>(seat, 0, word, word + 1) == word {
                 return match shared.exchange(seat, 0, None) {
@@ -121,16 +121,17 @@ impl<T: Kept> Turn<T> {
 
     /// Gives the turn back with a value that has exactly one entry more than the one taken.
     ///
-    /// The seat has then seen the whole list, and the entry's place, counted from 1, is one that it made.
+    /// The seat has then seen the whole list, and the entry's number, from 1, is among those that it made.
     pub fn commit_and_give(&self, seat: &mut TurnSeat<T>, value: T)
         requires seat { IsSeatOf self.now seat.old }
         requires turn { (seat_view seat.old).has ≡ true }
-        requires entry { (entry : T.Entry) × (T.list value ≡ (seat_view seat.old).taken ++ entry ∷ []) }
+        requires entry { (entry : T.Entry)
+            × (T.list value ≡ (seat_view seat.old).taken ++ entry ∷ []) }
         requires origin { T.origin value ≡ self.now.home }
         requires short { length (T.list value) < 2 ^ 62 }
         ensures seat { IsSeatOf self.now seat.new }
         ensures view { seat_view seat.new ≡ gave (committed (seat_view seat.old) (T.list value)) }
-        ensures made { Tally (seat_view seat.new) }
+        ensures made { MadeIsSeen (seat_view seat.new) }
     {
         let shared = &self.table.shared;
         let _empty = shared.exchange(seat, 0, Some(value));
@@ -139,8 +140,8 @@ impl<T: Kept> Turn<T> {
         shared.wake_one(0);
     }
 
-    /// Gives the turn back with a value that has just the entries of the one taken, all of which the seat has then
-    /// seen.
+    /// Gives the turn back with a value that has exactly the entries of the one taken. The seat has then seen all of
+    /// them.
     pub fn give_back(&self, seat: &mut TurnSeat<T>, value: T)
         requires seat { IsSeatOf self.now seat.old }
         requires turn { (seat_view seat.old).has ≡ true }
@@ -148,7 +149,7 @@ impl<T: Kept> Turn<T> {
         requires origin { T.origin value ≡ self.now.home }
         ensures seat { IsSeatOf self.now seat.new }
         ensures view { seat_view seat.new ≡ gave (seat_view seat.old) }
-        ensures made { Tally (seat_view seat.new) }
+        ensures made { MadeIsSeen (seat_view seat.new) }
     {
         let shared = &self.table.shared;
         let _none = shared.exchange(seat, 0, Some(value));
@@ -156,15 +157,16 @@ impl<T: Kept> Turn<T> {
         shared.wake_one(0);
     }
 
-    /// The number of entries at one moment of the call, whoever has the turn: at least as many as the seat has seen.
+    /// The number of entries at some moment of the call, whichever seat has the turn: no fewer than the seat has seen.
     pub fn look(&self, seat: &mut TurnSeat<T>) -> u64
         requires seat { IsSeatOf self.now seat.old }
         ensures seat { IsSeatOf self.now seat.new }
         ensures view { seat_view seat.new ≡ seat_view seat.old }
         ensures seen { length (seat_view seat.old).seen ≤ result }
-        ensures taken { (seat_view seat.old).has ≡ true → result ≡ length (seat_view seat.old).taken }
+        ensures taken { (seat_view seat.old).has ≡ true
+            → result ≡ length (seat_view seat.old).taken }
         ensures alone { IsAlone (seat_view seat.old) → result ≡ length (seat_view seat.old).seen }
-        ensures made { Tally (seat_view seat.new) }
+        ensures made { MadeIsSeen (seat_view seat.new) }
     {
         self.table.shared.load::<Look>(seat, 0) / 2
     }
@@ -183,10 +185,10 @@ impl<T: Kept> Turn<T> {
         self.table.shared.split_seat::<Cut>(seat)
     }
 
-    /// Takes another seat in. The seat has then seen the longer of the two lists, which both begin, and made the places
-    /// of both.
+    /// Joins another seat into this one, which has then seen the longer of the two lists. Both lists are prefixes of
+    /// it, and what either seat made now counts as made by this one.
     ///
-    /// A seat into which all that was split from it came back is alone again, in whatever order it came.
+    /// A seat is alone again once all that was split from it was joined into it, in any order.
     #[tactic(auto, using(shares::proofs::Shares::owns_append))]
     pub fn join(&self, seat: &mut TurnSeat<T>, other: TurnSeat<T>)
         requires seat { IsSeatOf self.now seat.old }
@@ -199,16 +201,16 @@ impl<T: Kept> Turn<T> {
         ensures other_begins { IsPrefix (seat_view other).seen (seat_view seat.new).seen }
         ensures shares { (point : ℕ → Bool) → owns (seat_view seat.new).share point
             ≡ (owns (seat_view seat.old).share point || owns (seat_view other).share point) }
-        ensures made { Tally (seat_view seat.new) }
+        ensures made { MadeIsSeen (seat_view seat.new) }
     {
         self.table.shared.join_seat::<Merge>(seat, other);
         self.table.shared.load::<Learn>(seat, 0);
     }
 
-    /// Ends the turn and gives the value. Its list begins with all that the seat has seen, and is just that where the
+    /// Ends the turn and returns the value. Its list begins with all that the seat has seen, and is exactly that if the
     /// seat is alone.
     ///
-    /// It waits while another seat has the turn, and for ever where that seat is gone.
+    /// It waits while another seat has the turn, and forever if that seat is gone.
     pub fn close(self, rt: &impl Wait, mut seat: TurnSeat<T>) -> T
         requires seat { IsSeatOf self seat }
         requires free { (seat_view seat).has ≡ false }
@@ -216,7 +218,7 @@ impl<T: Kept> Turn<T> {
         ensures origin { T.origin result ≡ self.home }
         ensures alone { IsAlone (seat_view seat) → T.list result ≡ (seat_view seat).seen }
         ensures short { length (T.list result) < 2 ^ 62 }
-        ensures made { Tally (seat_view seat) }
+        ensures made { MadeIsSeen (seat_view seat) }
     {
         self.take(rt, &mut seat)
     }

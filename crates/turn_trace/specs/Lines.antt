@@ -23,11 +23,11 @@ kind_text (fault.Poke address value) = with_number (codes "poke ") address ++ sp
 kind_text (fault.Code address value) = with_number (codes "code ") address ++ spaced value
 kind_text (fault.Reg register value) = with_number (codes "reg ") register ++ spaced value
 
--- a word, the turns before the fault, and its kind
+-- a word, the number of instructions before the fault, and its kind
 abbrev pub fault_text : List ℕ → Fault → List ℕ
 fault_text word f = with_number word f.after ++ (codes " " ++ kind_text f.kind)
 
--- a fault writes nothing, since its place may not be written
+-- a fault writes nothing, since its address may not be written
 abbrev pub is_refused : List Entry → FaultKind → Bool
 is_refused entries fault.Trap = false
 is_refused entries fault.Hang = false
@@ -51,9 +51,9 @@ unstruck_line f = fault_text (codes "unstruck ") f ++ line_feed
 abbrev pub unstruck_lines : List Fault → List ℕ
 unstruck_lines faults = flat_map unstruck_line faults
 
--- ---- a turn
+-- ---- an instruction
 
--- the word that was fetched as its instruction, or as the number that it is
+-- the word that was fetched, as its instruction or as a number
 abbrev pub word_text : Option ℕ → List ℕ
 word_text None = codes "-"
 word_text (Some word) = line_body (text_tokens word)
@@ -70,11 +70,11 @@ abbrev pub jumped_text : Option ℕ → List ℕ
 jumped_text None = []
 jumped_text (Some counter) = with_number (codes " | goto ") counter
 
--- a turn's number, its counter and the word
+-- an instruction's number, its counter and the word
 abbrev pub fetch_text : TracedTurn → List ℕ
 fetch_text t = decimal t.number ++ (spaced t.counter ++ (codes " " ++ word_text t.word))
 
--- each effect of a turn behind a bar
+-- each effect of an instruction after a bar
 abbrev pub effects_text : TracedTurn → List ℕ
 effects_text t = set_text t.set ++ (stored_text t.stored ++ (jumped_text t.jumped ++ acts_tail t.acts))
 
@@ -87,21 +87,21 @@ abbrev pub step_line : List Entry → TracedStep → List ℕ
 step_line entries (strike f) = strike_line entries f
 step_line entries (taken t) = turn_line t
 
--- the lines of steps, with the entries that say where the driver may write
+-- the lines of steps, with the entries that determine where the driver may write
 abbrev pub step_lines : List Entry → List TracedStep → List ℕ
 step_lines entries steps = flat_map (step_line entries) steps
 
 -- ---- the start
 
--- a register and its word, where that is not 0
+-- a register and its word, if the word is not 0
 abbrev pub register_note : ℕ → ℕ → List ℕ
 register_note number word = if word == 0 then [] else with_number (codes " r") number ++ spaced word
 
--- the registers that are not 0, of which the first is given
+-- the registers that are not 0; the first has number `number`
 abbrev pub register_notes : ℕ → List ℕ → List ℕ
 register_notes number [] = []
 register_notes number (word ∷ words) = register_note number word ++ register_notes (suc number) words
 
--- the counter and the registers that a burst finds
+-- the counter and the registers at the start of a burst
 abbrev pub start_line : Cpu → List ℕ
 start_line cpu = with_number (codes "start ") cpu.counter ++ (register_notes 0 cpu.registers ++ line_feed)

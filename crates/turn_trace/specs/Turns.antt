@@ -7,10 +7,10 @@ use Rattle.nook_data.specs.declared.machine.Instr.TheVariants as instr
 use Rattle.machine_defs.specs.Burst.{acts_of}
 use Rattle.machine_defs.specs.Machine.{decode_of}
 use Rattle.machine_defs.specs.Pages.{fetch_word}
-use Rattle.machine_defs.specs.Turn.{Machine, Turn}
+use Rattle.machine_defs.specs.Execution.{Machine, Executed}
 use Rattle.turn_trace.specs.declared.traced.TracedTurn.{TracedTurn}
 
--- What one turn did: what was fetched, and what is seen of its effects.
+-- One instruction: what was fetched, and its visible effects.
 
 -- the instruction of a word that was fetched
 abbrev pub instr_in : Option ℕ → Option Instr
@@ -49,12 +49,12 @@ abbrev pub with_word : Cpu → Option ℕ → Option (ℕ × ℕ)
 with_word cpu None = None
 with_word cpu (Some a) = Some (a, slice_index cpu.registers a)
 
--- the register that an instruction sets, and its word behind the turn
+-- the register that an instruction sets, and its word after the instruction
 abbrev pub set_by : Cpu → Option Instr → Option (ℕ × ℕ)
 set_by after None = None
 set_by after (Some i) = with_word after (target_of i)
 
--- the address that an instruction stores to, and the word, by the registers before the turn
+-- the address that an instruction stores to, and the word, from the registers before the instruction
 abbrev pub store_of : Cpu → Instr → Option (ℕ × ℕ)
 store_of before (instr.St a b imm) =
     Some ((slice_index before.registers b + imm) % 2 ^ 32, slice_index before.registers a)
@@ -64,16 +64,16 @@ abbrev pub stored_by : Cpu → Option Instr → Option (ℕ × ℕ)
 stored_by before None = None
 stored_by before (Some i) = store_of before i
 
--- the counter behind the turn, where that is not the next one
+-- the counter after the instruction, if it is not the next one
 abbrev pub jumped_to : ℕ → ℕ → Option ℕ
 jumped_to before after = if after == before + 1 then None else Some after
 
--- a turn that is a crossing, by a trap, a kernel call or a reply, shows no effect
+-- an instruction that is a crossing, by a trap, a kernel call or a reply, shows no effect
 abbrev pub unless_crossed : {T : Type 0} → Option BurstEnd → Option T → Option T
 unless_crossed None effect = effect
 unless_crossed (Some crossing) effect = None
 
--- what is told of a turn: its number, the word that it fetched, the processor before and behind it, its act, and
+-- the trace of an instruction: its number, the word that it fetched, the processor before and after it, its act, and
 -- whether it was a crossing
 abbrev pub traced_of : ℕ → Option ℕ → Cpu → Cpu → List Act → Option BurstEnd → TracedTurn
 traced_of number word before after acts crossing = record {
@@ -86,7 +86,7 @@ traced_of number word before after acts crossing = record {
   acts = acts;
 }
 
--- what is told of the turn of a machine
-abbrev pub traced : ℕ → Machine → Turn → TracedTurn
+-- the trace of a machine's instruction
+abbrev pub traced : ℕ → Machine → Executed → TracedTurn
 traced number m t =
     traced_of number (fetch_word m.memory m.cpu.counter) m.cpu t.machine.cpu (acts_of t.act) t.crossing

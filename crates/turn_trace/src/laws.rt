@@ -2,15 +2,15 @@
 
 ghost use Rattle.std.specs.Prelude.{List};
 ghost use Rattle.machine_defs.specs.Burst.{burst};
-ghost use Rattle.machine_defs.specs.Turn.{Machine};
+ghost use Rattle.machine_defs.specs.Execution.{Machine};
 ghost use Rattle.nook_data.specs.declared.entries.Entry.{Entry};
 ghost use Rattle.nook_data.specs.declared.scenario.Fault.{Fault};
 ghost use Rattle.turn_trace.specs.Bursts.{burst_trace};
 ghost use Rattle.turn_trace.specs.Retelling.{Retells};
 
-/// Whatever the machine and the faults, a trace tells just the burst that happens: as many turns as it counts, the same
-/// acts, the same end and the machine that it leaves; and each fault once.
-pub fn every_trace_tells_its_burst()
+/// For any machine and faults, a trace matches the burst that happens: it has the burst's number of instructions, its
+/// acts, its end and its final machine; and it has each fault once.
+pub fn every_trace_reports_its_burst()
     ensures { (entries : List Entry) (faults : List Fault) (m : Machine)
         → Retells faults (burst_trace entries faults m) (burst entries faults m) }
 {}

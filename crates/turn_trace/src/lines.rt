@@ -1,4 +1,4 @@
-//! The lines of a burst's steps: each call adds to a line, which its maker drops after `NoMemory`.
+//! The lines of a burst's steps: each call appends to a line. The caller drops the line after `NoMemory`.
 
 ghost use Rattle.std.specs.Prelude.{◌≡◌, ◌++◌, OnOk, codes};
 ghost use Rattle.turn_trace.specs.Lines.{effects_text, fault_text, fetch_text, jumped_text, kind_text, refusal_text};
@@ -15,7 +15,7 @@ use nook_data::scenario::{Fault, FaultKind};
 use report_text::{Line, push_acts_tail, push_number};
 use std::alloc::Global;
 
-/// The counter and the registers that a burst finds, those that are 0 left out.
+/// The counter and the registers at the start of a burst, without registers that are 0.
 pub fn push_start(line: &mut Line, cpu: &Cpu) -> Result<(), NoMemory>
     ensures { OnOk result (line.new ≡ line.old ++ start_line cpu.now) }
 {
@@ -24,7 +24,7 @@ pub fn push_start(line: &mut Line, cpu: &Cpu) -> Result<(), NoMemory>
     line.push("\n")
 }
 
-/// The registers that are not 0, each behind a blank.
+/// The registers that are not 0, each after a space.
 fn push_registers(line: &mut Line, registers: &[Word]) -> Result<(), NoMemory>
     ensures { OnOk result (line.new ≡ line.old ++ register_notes 0 registers.now) }
 {
@@ -34,7 +34,7 @@ fn push_registers(line: &mut Line, registers: &[Word]) -> Result<(), NoMemory>
     Ok(())
 }
 
-/// A register and its word behind a blank, where the word is not 0.
+/// A register and its word after a space, if the word is not 0.
 fn push_register(line: &mut Line, number: u64, word: Word) -> Result<(), NoMemory>
     ensures { OnOk result (line.new ≡ line.old ++ register_note number word) }
 {
@@ -45,7 +45,7 @@ fn push_register(line: &mut Line, number: u64, word: Word) -> Result<(), NoMemor
     push_number(line, " ", u64::from(word))
 }
 
-/// The line of a turn.
+/// The line of an instruction.
 pub fn push_turn(alloc: Global, line: &mut Line, turn: &TracedTurn) -> Result<(), NoMemory>
     ensures { OnOk result (line.new ≡ line.old ++ turn_line turn.now) }
 {
@@ -54,7 +54,7 @@ pub fn push_turn(alloc: Global, line: &mut Line, turn: &TracedTurn) -> Result<()
     line.push("\n")
 }
 
-/// A turn's number, its counter and the word that it fetched.
+/// An instruction's number, its counter and the word that it fetched.
 fn push_fetch(alloc: Global, line: &mut Line, turn: &TracedTurn) -> Result<(), NoMemory>
     ensures { OnOk result (line.new ≡ line.old ++ fetch_text turn.now) }
 {
@@ -64,7 +64,7 @@ fn push_fetch(alloc: Global, line: &mut Line, turn: &TracedTurn) -> Result<(), N
     push_word(alloc, line, turn.word)
 }
 
-/// The effects of a turn, each behind a bar.
+/// The effects of an instruction, each after a bar.
 fn push_effects(line: &mut Line, turn: &TracedTurn) -> Result<(), NoMemory>
     ensures { OnOk result (line.new ≡ line.old ++ effects_text turn.now) }
 {
@@ -117,7 +117,7 @@ fn push_jumped(line: &mut Line, jumped: Option<Word>) -> Result<(), NoMemory>
     push_number(line, " | goto ", u64::from(counter))
 }
 
-/// The line of a fault that struck, and whether it was refused.
+/// The line of a fault that struck, with whether it was refused.
 pub fn push_strike(line: &mut Line, fault: &Fault, refused: bool) -> Result<(), NoMemory>
     ensures { OnOk result (line.new ≡ line.old
         ++ (fault_text (codes "fault ") fault.now ++ (refusal_text refused ++ line_feed))) }
@@ -137,7 +137,7 @@ pub fn push_unstruck(line: &mut Line, fault: &Fault) -> Result<(), NoMemory>
     line.push("\n")
 }
 
-/// A word, the turns before a fault, and the fault's kind.
+/// A word, the number of instructions before a fault, and the fault's kind.
 fn push_fault(line: &mut Line, word: &str, fault: &Fault) -> Result<(), NoMemory>
     ensures { OnOk result (line.new ≡ line.old ++ fault_text word.now fault.now) }
 {
@@ -161,10 +161,10 @@ fn push_kind(line: &mut Line, kind: FaultKind) -> Result<(), NoMemory>
     }
 }
 
-/// A word, a place and what is written there.
-fn push_writing(line: &mut Line, word: &str, place: u32, value: u32) -> Result<(), NoMemory>
-    ensures { OnOk result (line.new ≡ line.old ++ (with_number word.now place ++ spaced value)) }
+/// A word, an address or register, and what is written there.
+fn push_writing(line: &mut Line, word: &str, point: u32, value: u32) -> Result<(), NoMemory>
+    ensures { OnOk result (line.new ≡ line.old ++ (with_number word.now point ++ spaced value)) }
 {
-    push_number(line, word, u64::from(place))?;
+    push_number(line, word, u64::from(point))?;
     push_number(line, " ", u64::from(value))
 }

@@ -1,9 +1,10 @@
-//! One turn, with what is seen of it.
+//! One instruction with its visible effects.
 
 ghost use Rattle.std.specs.Prelude.{◌≡◌, ◌<◌, ◌≤◌, true, IfOk, IfSome, OnOk, length};
 ghost use Rattle.driver_isa.specs.Fields.{has_registers};
 ghost use Rattle.driver_isa.specs.Turns.{machine_of};
-ghost use Rattle.machine_defs.specs.Turn.{turn as machine_turn};
+ghost use Rattle.machine_defs.specs.Execution.{turn as machine_turn};
+ghost use Rattle.machine_defs.specs.Pages.{fetch_word};
 ghost use Rattle.turn_trace.specs.Turns.{instr_in, jumped_to, set_by, stored_by, target_of, traced, traced_of};
 ghost use Rattle.turn_trace.specs.Turns.{with_word};
 
@@ -12,41 +13,42 @@ use nook_data::journal::SpareRooms;
 use nook_data::lists::Word;
 use nook_data::machine::{Acts, BurstEnd, Cpu, Instr};
 use nook_data::memory::NoMemory;
+use nook_data::memory_map::TEXT_WORDS;
 
-/// One turn of a burst, as it is told. A turn that traps, calls the kernel or replies shows no effect but its act.
+/// One instruction of a burst, as traced. One that traps, calls the kernel or replies shows no effect except its act.
 #[derive(Drop)]
 pub struct TracedTurn {
     /// Its number in the burst, from 1.
     pub number: u32,
-    /// The counter before it.
+    /// The counter before the instruction.
     pub counter: Word,
-    /// The word at the counter, where it may be fetched.
+    /// The word at the counter, if it may be fetched.
     pub word: Option<Word>,
-    /// The register that the instruction sets, and its word behind the turn.
+    /// The register that the instruction sets, and its word after the instruction.
     pub set: Option<(u8, Word)>,
     /// The address that the instruction stores to, and the word.
     pub stored: Option<(Word, Word)>,
-    /// The counter behind the turn, where that is not the next one.
+    /// The counter after the instruction, if it is not the next one.
     pub jumped: Option<Word>,
-    /// The device act, where there was one.
+    /// The device act, if there was one.
     pub acts: Acts,
 }
 
-/// A turn that was taken, and the crossing that it was.
+/// An instruction that ran, and the crossing that it caused.
 #[derive(Drop)]
 pub struct TurnTaken {
-    pub told: TracedTurn,
+    pub recorded: TracedTurn,
     pub end: Option<BurstEnd>,
 }
 
-/// Takes one turn and tells it. It takes the memory of a burst's acts first, and is not taken where that is wanting.
+/// Runs one instruction and traces it. It allocates room for a burst's acts first, and does not run if memory runs out.
 pub fn take_turn<B: Bus>(
     number: u32,
     cpu: &mut Cpu,
     bus: &mut B,
     spare: &mut SpareRooms,
 ) -> Result<TurnTaken, NoMemory>
-    ensures told { IfOk result (λ turned. turned.told
+    ensures recorded { IfOk result (λ turned. turned.recorded
         ≡ traced number (machine_of cpu.old (B.words bus.old) (B.device bus.old))
         (machine_turn (B.entries bus.old) (machine_of cpu.old (B.words bus.old) (B.device bus.old)))) }
     ensures machine { OnOk result ((machine_turn (B.entries bus.old)
@@ -54,21 +56,33 @@ pub fn take_turn<B: Bus>(
         ≡ machine_of cpu.new (B.words bus.new) (B.device bus.new)) }
     ensures crossing { IfOk result (λ turned. (machine_turn (B.entries bus.old)
         (machine_of cpu.old (B.words bus.old) (B.device bus.old))).crossing ≡ turned.end) }
-    ensures acts { IfOk result (λ turned. length turned.told.acts ≤ 1) }
+    ensures acts { IfOk result (λ turned. length turned.recorded.acts ≤ 1) }
     ensures entries { B.entries bus.new ≡ B.entries bus.old }
     ensures held { B.held bus.new ≡ B.held bus.old }
 {
     let mut acts = spare.open_log()?;
     let before = *cpu;
-    let word = bus.fetch(before.counter);
+    let word = fetched(bus, before.counter);
     let end = run_turn(cpu, bus, &mut acts);
     let acts = spare.close_log(acts);
-    let told = told_of(number, word, &before, cpu, acts, end);
-    Ok(TurnTaken { told, end })
+    let recorded = reported_of(number, word, &before, cpu, acts, end);
+    Ok(TurnTaken { recorded, end })
 }
 
-/// What is told of a turn, from the processor before and behind it.
-fn told_of(
+/// The word of text at a counter, if it may be fetched.
+#[tactic(auto, using(crate::proofs::TextWords::read_in_text))]
+fn fetched<B: Bus>(bus: &B, counter: Word) -> Option<Word>
+    ensures { result ≡ fetch_word (B.words bus.now) counter }
+{
+    if counter < TEXT_WORDS {
+        bus.read(counter)
+    } else {
+        None
+    }
+}
+
+/// The trace of an instruction, from the processor before and after it.
+fn reported_of(
     number: u32,
     word: Option<Word>,
     before: &Cpu,
@@ -78,7 +92,7 @@ fn told_of(
 ) -> TracedTurn
     ensures { result ≡ traced_of number word before.now after.now acts end }
 {
-    let mut told = TracedTurn {
+    let mut recorded = TracedTurn {
         number,
         counter: before.counter,
         word,
@@ -89,11 +103,11 @@ fn told_of(
     };
     if end.is_none() {
         let instr = instr_in(word);
-        told.set = set_by(after, instr);
-        told.stored = stored_by(before, instr);
-        told.jumped = jumped_to(before.counter, after.counter);
+        recorded.set = set_by(after, instr);
+        recorded.stored = stored_by(before, instr);
+        recorded.jumped = jumped_to(before.counter, after.counter);
     }
-    told
+    recorded
 }
 
 /// The instruction of a word that was fetched.
@@ -107,7 +121,7 @@ fn instr_in(word: Option<Word>) -> Option<Instr>
     }
 }
 
-/// The register that an instruction sets, and its word behind the turn.
+/// The register that an instruction sets, and its word after the instruction.
 fn set_by(after: &Cpu, instr: Option<Instr>) -> Option<(u8, Word)>
     requires { IfSome instr (λ instr. has_registers instr ≡ true) }
     ensures { result ≡ set_by after.now instr }
@@ -154,7 +168,7 @@ fn target_of(instr: Instr) -> Option<u8>
     }
 }
 
-/// The address that an instruction stores to, and the word, by the registers before the turn.
+/// The address that an instruction stores to, and the word, from the registers before the instruction.
 fn stored_by(before: &Cpu, instr: Option<Instr>) -> Option<(Word, Word)>
     requires { IfSome instr (λ instr. has_registers instr ≡ true) }
     ensures { result ≡ stored_by before.now instr }
@@ -168,7 +182,7 @@ fn stored_by(before: &Cpu, instr: Option<Instr>) -> Option<(Word, Word)>
     }
 }
 
-/// The counter behind a turn, where that is not the next one.
+/// The counter after an instruction, if it is not the next one.
 fn jumped_to(before: Word, after: Word) -> Option<Word>
     ensures { result ≡ jumped_to before after }
 {

@@ -1,9 +1,10 @@
-//! One burst, told turn by turn.
+//! One burst, traced instruction by instruction.
 
 ghost use Rattle.std.specs.Prelude.{◌≡◌, ◌++◌, false, map, IfOk, None, OnOk, Some};
 ghost use Rattle.driver_isa.specs.Turns.{machine_of};
 ghost use Rattle.machine_defs.specs.Burst.{strikes_at, struck_machine, trap_of};
 ghost use Rattle.turn_trace.specs.Bursts.{burst_trace, strike as struck_step, struck_at};
+ghost use Rattle.nook_io.specs.Changes.{change};
 ghost use Rattle.report_text.specs.Writing.{Wrote};
 ghost use Rattle.turn_trace.specs.Lines.{is_refused, step_lines};
 
@@ -11,7 +12,7 @@ use crate::traced::take_turn;
 use crate::writing::{write_strike, write_turn};
 use driver_isa::Bus;
 use nook_data::journal::SpareRooms;
-use nook_data::limits::{MOST_ACTS, MOST_TURNS};
+use nook_data::limits::{MOST_ACTS, MOST_INSTRUCTIONS};
 use nook_data::machine::{Cpu, TrapCause};
 use nook_data::memory_map::TEXT_WORDS;
 use nook_data::scenario::{Fault, FaultKind};
@@ -19,24 +20,24 @@ use nook_io::outside::Sink;
 use report_text::{Line, WriteStop};
 use std::alloc::Global;
 
-/// What the faults of one place left: the faults behind them, and the trap that one of them is.
+/// The result of the faults at one position: the faults after them, and the trap if one of them is a trap.
 #[derive(Drop)]
 struct Struck<'a> {
     rest: &'a [Fault],
     stopped: Option<TrapCause>,
 }
 
-/// Whether a fault was refused, and the trap that it is.
+/// Whether a fault was refused, and its trap, if it is one.
 #[derive(Clone, Copy)]
 struct Hit {
     refused: bool,
     stopped: Option<TrapCause>,
 }
 
-/// Runs one burst to its crossing and writes a line for each fault that strikes and each turn: each line is written
-/// before the next turn is taken. `faults` are those of this burst in rising order of `after`, and those that did not
-/// strike are handed back. After a fault of the sink or want of memory a front of the burst has happened, and the sink
-/// has gained a front of its lines.
+/// Runs one burst to its crossing and writes a line for each fault that strikes and each instruction. Each line is
+/// written before the next instruction runs. `faults` are those of this burst in ascending order of `after`; returns
+/// those that did not strike. If the sink fails or memory runs out, a prefix of the burst has happened, and the sink
+/// has received a prefix of its lines.
 #[tactic(auto, unfolding(crate::specs::Bursts::burst_trace))]
 pub fn trace_burst<'a, B: Bus, K: Sink>(
     alloc: Global,
@@ -45,7 +46,7 @@ pub fn trace_burst<'a, B: Bus, K: Sink>(
     faults: &'a [Fault],
     sink: &mut K,
 ) -> Result<&'a [Fault], WriteStop>
-    ensures written { Wrote (K.held sink.old) (K.held sink.new) (K.count sink.old) (K.count sink.new) result
+    ensures written { Wrote (change K.held K.count sink.old sink.new) result
         (step_lines (B.entries bus.old)
         (burst_trace (B.entries bus.old) faults.now (machine_of cpu.old (B.words bus.old) (B.device bus.old))).steps) }
     ensures unstruck { IfOk result (λ rest. rest.now
@@ -58,18 +59,18 @@ pub fn trace_burst<'a, B: Bus, K: Sink>(
     let mut line = Line::new(alloc);
     let mut pending = faults;
     let mut acts = 0;
-    for place in 0..MOST_TURNS {
-        let struck = strike_due(sink, &mut line, pending, place, cpu, bus)?;
+    for point in 0..MOST_INSTRUCTIONS {
+        let struck = strike_due(sink, &mut line, pending, point, cpu, bus)?;
         pending = struck.rest;
         if struck.stopped.is_some() {
             return Ok(pending);
         }
-        let turned = take_turn(place + 1, cpu, bus, &mut spare)?;
-        write_turn(alloc, sink, &mut line, &turned.told)?;
+        let turned = take_turn(point + 1, cpu, bus, &mut spare)?;
+        write_turn(alloc, sink, &mut line, &turned.recorded)?;
         if turned.end.is_some() {
             return Ok(pending);
         }
-        acts += turned.told.acts.len();
+        acts += turned.recorded.acts.len();
         if acts >= MOST_ACTS {
             return Ok(pending);
         }
@@ -77,31 +78,31 @@ pub fn trace_burst<'a, B: Bus, K: Sink>(
     Ok(pending)
 }
 
-/// Strikes the faults at the front that stand at this place, in their order, up to one that is a trap, and writes the
-/// line of each when it has struck.
+/// Strikes the faults due at this position in their order, up to one that is a trap, and writes the line of each after
+/// it has struck.
 fn strike_due<'a, B: Bus, K: Sink>(
     sink: &mut K,
     line: &mut Line,
     faults: &'a [Fault],
-    place: u32,
+    point: u32,
     cpu: &mut Cpu,
     bus: &mut B,
 ) -> Result<Struck<'a>, WriteStop>
-    ensures struck { IfOk result (λ struck. strikes_at place (B.entries bus.old) faults.now
+    ensures struck { IfOk result (λ struck. strikes_at point (B.entries bus.old) faults.now
         (machine_of cpu.old (B.words bus.old) (B.device bus.old))
         ≡ record {
           machine = machine_of cpu.new (B.words bus.new) (B.device bus.new);
           rest = struck.rest.now;
           stopped = struck.stopped;
         }) }
-    ensures written { Wrote (K.held sink.old) (K.held sink.new) (K.count sink.old) (K.count sink.new) result
-        (step_lines (B.entries bus.old) (map struck_step (struck_at place faults.now))) }
+    ensures written { Wrote (change K.held K.count sink.old sink.new) result
+        (step_lines (B.entries bus.old) (map struck_step (struck_at point faults.now))) }
     ensures entries { B.entries bus.new ≡ B.entries bus.old }
     ensures held { B.held bus.new ≡ B.held bus.old }
 {
     let mut rest = faults;
     while let Some((fault, more)) = rest.split_first() {
-        if fault.after != place {
+        if fault.after != point {
             break;
         }
         rest = more;
@@ -120,7 +121,7 @@ fn strike_due<'a, B: Bus, K: Sink>(
     })
 }
 
-/// Strikes one fault. A poke or a code fault that is refused does nothing, nor does a register that there is not.
+/// Strikes one fault. A refused poke or code fault does nothing; nor does a fault of a register that does not exist.
 fn strike<B: Bus>(kind: FaultKind, cpu: &mut Cpu, bus: &mut B) -> Hit
     ensures struck { struck_machine (B.entries bus.old) kind (machine_of cpu.old (B.words bus.old) (B.device bus.old))
         ≡ machine_of cpu.new (B.words bus.new) (B.device bus.new) }
@@ -159,7 +160,7 @@ fn stopping(cause: TrapCause) -> Hit
     }
 }
 
-/// A fault that is none.
+/// A fault that is not a trap.
 fn going_on(refused: bool) -> Hit
     ensures { result ≡ record { refused = refused; stopped = None } }
 {

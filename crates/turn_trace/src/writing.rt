@@ -1,8 +1,9 @@
-//! The writing of a burst's lines, each when it is made. A line is put together in a buffer that is emptied first and
-//! kept for the next.
+//! Writes each line of a burst when it is made. A line is built in a buffer that is emptied first and
+//! reused for the next line.
 
 ghost use Rattle.std.specs.Prelude.{◌≡◌, ◌++◌, codes};
 ghost use Rattle.report_defs.specs.ReportLines.{line_feed};
+ghost use Rattle.nook_io.specs.Changes.{change};
 ghost use Rattle.report_text.specs.Writing.{Wrote};
 ghost use Rattle.turn_trace.specs.Lines.{fault_text, refusal_text, start_line, turn_line, unstruck_line};
 ghost use Rattle.turn_trace.specs.Lines.{unstruck_lines};
@@ -15,24 +16,23 @@ use nook_io::outside::Sink;
 use report_text::{Line, WriteStop, write_text};
 use std::alloc::Global;
 
-/// Writes the counter and the registers that a burst finds, those that are 0 left out.
+/// Writes the counter and the registers at the start of a burst, without registers that are 0.
 pub fn write_start<K: Sink>(alloc: Global, sink: &mut K, cpu: &Cpu) -> Result<(), WriteStop>
-    ensures { Wrote (K.held sink.old) (K.held sink.new) (K.count sink.old) (K.count sink.new) result
-        (start_line cpu.now) }
+    ensures { Wrote (change K.held K.count sink.old sink.new) result (start_line cpu.now) }
 {
     let mut line = Line::new(alloc);
     push_start(&mut line, cpu)?;
     write_text(sink, &line)
 }
 
-/// Writes the line of a fault that struck, and whether it was refused.
+/// Writes the line of a fault that struck, with whether it was refused.
 pub fn write_strike<K: Sink>(
     sink: &mut K,
     line: &mut Line,
     fault: &Fault,
     refused: bool,
 ) -> Result<(), WriteStop>
-    ensures { Wrote (K.held sink.old) (K.held sink.new) (K.count sink.old) (K.count sink.new) result
+    ensures { Wrote (change K.held K.count sink.old sink.new) result
         (fault_text (codes "fault ") fault.now ++ (refusal_text refused ++ line_feed)) }
 {
     line.clear();
@@ -40,15 +40,14 @@ pub fn write_strike<K: Sink>(
     write_text(sink, line)
 }
 
-/// Writes the line of a turn.
+/// Writes the line of an instruction.
 pub fn write_turn<K: Sink>(
     alloc: Global,
     sink: &mut K,
     line: &mut Line,
     turn: &TracedTurn,
 ) -> Result<(), WriteStop>
-    ensures { Wrote (K.held sink.old) (K.held sink.new) (K.count sink.old) (K.count sink.new) result
-        (turn_line turn.now) }
+    ensures { Wrote (change K.held K.count sink.old sink.new) result (turn_line turn.now) }
 {
     line.clear();
     push_turn(alloc, line, turn)?;
@@ -61,8 +60,7 @@ pub fn write_unstruck<K: Sink>(
     sink: &mut K,
     faults: &[Fault],
 ) -> Result<(), WriteStop>
-    ensures { Wrote (K.held sink.old) (K.held sink.new) (K.count sink.old) (K.count sink.new) result
-        (unstruck_lines faults.now) }
+    ensures { Wrote (change K.held K.count sink.old sink.new) result (unstruck_lines faults.now) }
 {
     let mut line = Line::new(alloc);
     for fault in faults {
@@ -77,8 +75,7 @@ fn write_unstruck_line<K: Sink>(
     line: &mut Line,
     fault: &Fault,
 ) -> Result<(), WriteStop>
-    ensures { Wrote (K.held sink.old) (K.held sink.new) (K.count sink.old) (K.count sink.new) result
-        (unstruck_line fault.now) }
+    ensures { Wrote (change K.held K.count sink.old sink.new) result (unstruck_line fault.now) }
 {
     line.clear();
     push_unstruck(line, fault)?;

@@ -7,7 +7,7 @@ use Rattle.nook_data.specs.declared.classes.Class.TheVariants.{Block, Net, Sound
 use Rattle.nook_data.specs.declared.calls.Op.{Op}
 use Rattle.nook_data.specs.declared.calls.Op.TheVariants.{Read, Write, Send, Recv, Open, Play, Close, Get, Set}
 use Rattle.nook_data.specs.Classes.{conflicts, clash, share_block, is_set, is_write, is_recv, is_of_stream, is_of_class}
-use Rattle.nook_data.specs.Classes.{entry_count, entry_place, accept, blocks_of_op, first_of_op}
+use Rattle.nook_data.specs.Classes.{entry_count, entry_address, accept, blocks_of_op, first_of_op}
 use Rattle.worked_rows.specs.EntryNames.{entry_name, entry_names}
 
 clash_symmetric : (c : Class) (a b : Op) → clash c a b ≡ clash c b a
@@ -27,7 +27,7 @@ entries_counted Block = refl
 entries_counted Net = refl
 entries_counted Sound = refl
 
-pub entry_named : (c : Class) (o : Op) → is_of_class c o ≡ true → slice_get (entry_names c) (entry_place c o) ≡ Some (entry_name o)
+pub entry_named : (c : Class) (o : Op) → is_of_class c o ≡ true → slice_get (entry_names c) (entry_address c o) ≡ Some (entry_name o)
 entry_named Block (Read first count) h = refl
 entry_named Block (Write first words) h = refl
 entry_named Block (Get key) h = refl
@@ -43,5 +43,5 @@ entry_named Sound (Get key) h = refl
 entry_named Sound (Set key value) h = refl
 entry_named c o h = absurd cc
 
-pub io_status_accepted : (o : Op) (place : ℕ) → place < blocks_of_op o → accept o (256 + place) ≡ IoError (first_of_op o + place)
-io_status_accepted o place h = grind (arith, h)
+pub io_status_accepted : (o : Op) (index : ℕ) → index < blocks_of_op o → accept o (256 + index) ≡ IoError (first_of_op o + index)
+io_status_accepted o index h = grind (arith, h)

@@ -1,4 +1,4 @@
--- The worked cases, by computing.
+-- The worked cases hold, by computation.
 use Rattle.std.proofs.Common.{◌≡◌, refl, map}
 use Rattle.std.specs.List.{AllByRecursion}
 use Rattle.worked_rows.specs.Clauses.{Case, IsJudged, clause_cases, further_cases, lossy, lost_there}
@@ -17,6 +17,6 @@ pub further_judged : AllByRecursion IsJudged further_cases
 unfolding first_break break_from
 further_judged = ((refl, refl), ((refl, refl), ((refl, refl), ((refl, refl), tt))))
 
-pub losses_told : losses lossy ≡ lost_there
+pub losses_reported : losses lossy ≡ lost_there
 unfolding losses
-losses_told = refl
+losses_reported = refl

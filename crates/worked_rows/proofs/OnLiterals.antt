@@ -21,7 +21,7 @@ use Rattle.part_defs.specs.Stages.{stops, gives_up_part, collects, resets, loads
 use Rattle.part_defs.specs.Stages.{replays_open, resumes, stage_stepped}
 use Rattle.part_defs.specs.Steps.{opening, enabled, burst_stepped, after_arrival, stepped}
 use Rattle.machine_defs.specs.BurstFaults.{faults_of_burst}
-use Rattle.machine_defs.specs.Turn.{turn}
+use Rattle.machine_defs.specs.Execution.{turn}
 use Rattle.worked_rows.proofs.InputOnLiterals.{input_on_literals}
 use Rattle.worked_rows.proofs.TraceOnLiterals.{trace_on_literals}
 

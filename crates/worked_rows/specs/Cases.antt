@@ -26,9 +26,9 @@ use Rattle.run_defs.specs.Simulation.{Simulation, begins, runs, choices_of, jour
 use Rattle.promise_defs.specs.Trace.{trace}
 use Rattle.worked_rows.specs.Drivers.{failing_block_image}
 
--- Words by which the worked runs of one part are written down.
+-- Names with which the worked runs of one part are written.
 
--- so many numbers from a first one on
+-- this many consecutive numbers, from a first one on
 abbrev pub numbers : ℕ → ℕ → List ℕ
 numbers first zero = []
 numbers first (suc more) = first ∷ numbers (suc first) more
@@ -41,7 +41,7 @@ plain_image = block_image
 abbrev pub failing_image : Image
 failing_image = failing_block_image
 
--- a driver that registers, and serves every entry alike: it puts a 1 into its buffer and asks no device
+-- a driver that registers and serves all entries alike: it writes a 1 to its buffer and uses no device
 abbrev pub inventing_image : Image
 inventing_image = record {
   class = class.Block;
@@ -90,7 +90,7 @@ stream_with limit faults = record {
 abbrev pub injected : ℕ → ℕ → Fault
 injected burst after = record { burst = burst; after = after; kind = fault.Trap }
 
--- a thread whose script asks one part
+-- a script of operations on the one part
 abbrev pub of_part : List Op → List (ℕ × Op)
 of_part [] = []
 of_part (o ∷ ops) = (0, o) ∷ of_part ops
@@ -107,7 +107,7 @@ scenario_with part threads = record { schedule = schedule.RoundRobin; parts = pa
 abbrev pub invoked : ℕ → ℕ → Op → Event
 invoked call thread o = event.Invoke call thread o None
 
--- a call that goes Inside
+-- a call that enters the driver
 abbrev pub entered : ℕ → ℕ → ℕ → Event
 entered call thread attempt = event.Enter call thread attempt None
 
@@ -119,7 +119,7 @@ done s = event.Stage s [] []
 abbrev pub registers : ℕ → ℕ → Event
 registers code burst = event.Burst 16 0 burst 2 (ends.Service 3 code 0 (Some 0) []) [] None None
 
--- a burst that ends a call of the shadow's own
+-- a burst that ends a call of the shadow
 abbrev pub shadow_replies : ℕ → ℕ → List Act → Event
 shadow_replies burst count acts = event.Burst 16 0 burst count (ends.Reply 0) acts None None
 
@@ -134,7 +134,7 @@ stopped context call burst count acts = event.Burst context call burst count end
 
 -- ---- what a worked run shows
 
--- the run of one part's scenario; each worked run has fewer steps
+-- the run of a scenario with one part; each worked run has fewer than 100 steps
 abbrev pub run_of : PartSpec → List ThreadSpec → Simulation
 run_of part threads = runs 100 (begins (scenario_with part threads))
 
@@ -144,14 +144,14 @@ report_of part threads = report_text (scenario_with part threads)
     (journals_of (run_of part threads)) (answer_table (run_of part threads)) []
     (status_of (part ∷ []) (journals_of (run_of part threads)))
 
--- the run is over and makes this journal, and its report is this text
+-- the run is over, its journal is this one, and its report is this text
 pub record MakesRun (part : PartSpec) (threads : List ThreadSpec) (journal : List Event) (text : List ℕ) : Type 0 where
   pub over : choices_of (run_of part threads) ≡ []
   pub events : journals_of (run_of part threads) ≡ journal ∷ []
   pub report : report_of part threads ≡ text
 
--- the driver keeps its contract; what is seen of the journal is a run of the never-failing device; and what was lost
--- is licensed
+-- the driver keeps its contract, the visible behaviour is a run of the never-failing device, and the losses are
+-- licensed
 pub record KeepsContract (part : PartSpec) (journal : List Event) : Type 0 where
   pub kept : first_break part.class part.blocks journal ≡ None
   pub seen : IsClassRun part.class part.blocks (trace journal)

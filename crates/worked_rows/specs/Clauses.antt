@@ -21,11 +21,11 @@ use Rattle.nook_data.specs.declared.clause.Clause.TheVariants.{UnmadeSet, OtherG
 use Rattle.promise_defs.specs.Contract.{first_break}
 use Rattle.nook_data.specs.Clauses.{clause_number}
 
--- Worked cases of the contract: events that break a clause, and like events that keep all of them.
+-- Worked cases of the contract: events that break a clause, and similar events that keep all of them.
 
 -- ---- events
 
--- call 1 is made and goes Inside
+-- call 1 is invoked and enters the driver
 abbrev pub begun : Op → List Event
 begun o = event.Invoke 1 0 o None ∷ event.Enter 1 0 1 None ∷ []
 
@@ -33,22 +33,22 @@ begun o = event.Invoke 1 0 o None ∷ event.Enter 1 0 1 None ∷ []
 abbrev pub goes_on : List Act → Event
 goes_on done = event.Burst 0 1 1 1 end.Pause done None None
 
--- a burst of call 1 in which a frame is handed up
+-- a burst of call 1 that hands up a frame
 abbrev pub hands : List Act → List ℕ → Event
 hands done frame = event.Burst 0 1 1 1 (end.Service 6 2048 1 (Some 1) frame) done None None
 
--- a burst of call 1 with which it is answered
+-- a burst of call 1 that answers it
 abbrev pub ends : List Act → Answer → Event
 ends done a = event.Burst 0 1 1 1 (end.Reply 0) done (Some a) None
 
--- call 2 is made and goes Inside, and is answered
+-- call 2 is invoked, enters the driver and is answered
 abbrev pub begun_next : Op → List Event
 begun_next o = event.Invoke 2 0 o None ∷ event.Enter 2 0 1 None ∷ []
 
 abbrev pub next_ends : Answer → Event
 next_ends a = event.Burst 0 2 2 1 (end.Reply 0) [] (Some a) None
 
--- a burst of the shadow's own call with which that is at its end
+-- a burst that ends the shadow's call
 abbrev pub shadow_ends : List Act → Event
 shadow_ends done = event.Burst 16 0 1 1 (end.Reply 0) done None None
 
@@ -56,7 +56,7 @@ shadow_ends done = event.Burst 16 0 1 1 (end.Reply 0) done None None
 abbrev pub stage_of : Stage → Event
 stage_of s = event.Stage s [] []
 
--- a block of sixteen like words
+-- a block of sixteen equal words
 abbrev pub block_of : ℕ → List ℕ
 block_of word = replicate 16 word
 
@@ -65,7 +65,7 @@ plays word = act.Played word 0 0
 
 -- ---- the table
 
--- of a class with four blocks: events, one more that breaks a clause, and one in its place that breaks none
+-- for a class with four blocks: events, one more that breaks a clause, and an alternative to that which breaks none
 pub record Case : Type 0 where
   pub clause : Clause
   pub class : Class
@@ -76,14 +76,14 @@ pub record Case : Type 0 where
 abbrev pub row : Clause → Class → List Event → Event → Event → Case
 row clause class before bad good = record { clause = clause; class = class; before = before; bad = bad; good = good }
 
--- the one breaks its clause first, and the other breaks nothing
+-- the bad event breaks its clause first, and the good event breaks none
 abbrev pub IsJudged : Case → Type 0
 IsJudged c =
     (first_break c.class 4 (c.before ++ c.bad ∷ [])
     ≡ Some (record { event = suc (length c.before); clause = clause_number c.clause }))
     × (first_break c.class 4 (c.before ++ c.good ∷ []) ≡ None)
 
--- each clause in its turn; clause 13 speaks of two kinds of calls
+-- a case for each clause, in order; clause 13 covers two kinds of calls
 abbrev pub clause_cases : List Case
 clause_cases =
     row UnaskedStore Block (begun (op.Write 1 (block_of 7)))
@@ -119,29 +119,29 @@ clause_cases =
     (ends [] (answer.IoError 1)) (ends (act.Failed 1 false ∷ []) (answer.IoError 1))
     ∷ []
 
--- the same clauses where something else is to be seen
+-- more cases of these clauses, in other situations
 abbrev pub further_cases : List Case
 further_cases =
-    -- a ReplaySet is made good by its register, as a Set is
+    -- a ReplaySet must write its register, as a Set must
     row UnmadeSet Block (stage_of (stage.ReplaySet 1 9) ∷ [])
     (shadow_ends []) (shadow_ends (act.Register 1 9 ∷ []))
-    -- a Write is no longer Inside once Stop came
+    -- after Stop a Write is no longer in the driver
     ∷ row UnaskedStore Block (begun (op.Write 1 (block_of 7)) ++ stage_of stage.Stop ∷ stage_of (stage.ReplaySet 1 9)
     ∷ [])
     (shadow_ends (act.Register 1 9 ∷ act.Store 1 (block_of 7) ∷ [])) (shadow_ends (act.Register 1 9 ∷ []))
-    -- of two clauses that one burst breaks, the smaller one is told
+    -- if one burst breaks two clauses, the smaller one is reported
     ∷ row UnaskedFrame Net (begun (op.Send (5 ∷ [])))
     (goes_on (act.Sent (5 ∷ []) ∷ act.Sent (6 ∷ []) ∷ [])) (goes_on (act.Sent (5 ∷ []) ∷ []))
-    -- a frame that was handed up in the attempt excuses what is left in the ring
+    -- if the attempt handed up a frame, frames may be left in the ring
     ∷ row LeftInRing Net (event.Arrive (5 ∷ []) true ∷ event.Arrive (6 ∷ []) true ∷ begun op.Recv)
     (ends (act.Popped (5 ∷ []) ∷ []) answer.Empty) (hands (act.Popped (5 ∷ []) ∷ []) (5 ∷ []))
     ∷ []
 
 -- ---- losses
 
--- a Send that Stop answers unsent; a Play that is cut short; a Recv that is answered, and a second frame handed up in
--- it that the queue does not take; of four frames that arrive one finds the ring full, one is cleared by Reset, one is
--- popped, and one stays
+-- a Send that Stop answers unsent; a Play that ends after one of its samples; an answered Recv, and a second frame
+-- handed up in it that the queue does not take. Of four frames that arrive one finds the ring full, one is cleared by
+-- Reset, one is popped, and one stays.
 abbrev pub lossy : List Event
 lossy =
     begun (op.Send (5 ∷ []))

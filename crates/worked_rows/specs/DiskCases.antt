@@ -61,7 +61,7 @@ write_and_read_report =
     ++ codes "2 p0 data [1,2,3,4,5,6,7,8,9,10,11,12,13,14,15,16]\n"
     ++ codes "status 0\n"
 
--- ---- a write is cut behind its store, and another write and a read wait for it
+-- ---- a write is interrupted after its store, and another write and a read wait for it
 
 abbrev pub write_cut_part : PartSpec
 write_cut_part = disk_with plain_image 4 [] 1 (injected 3 89 ∷ [])
@@ -140,7 +140,7 @@ write_cut_report =
     ++ codes "1 p0 data [2,2,2,2,2,2,2,2,2,2,2,2,2,2,2,2]\n"
     ++ codes "status 0\n"
 
--- ---- a write of eight blocks is cut twice
+-- ---- a write of eight blocks is interrupted twice
 
 abbrev pub wide_write_cut_part : PartSpec
 wide_write_cut_part = disk_with plain_image 16 [] 2 (injected 3 258 ∷ injected 6 100 ∷ [])

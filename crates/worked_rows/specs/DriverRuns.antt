@@ -5,7 +5,7 @@ use Rattle.nook_data.specs.declared.scenario.Scenario.{Scenario}
 use Rattle.nook_data.specs.declared.scenario.ScheduleSpec.TheVariants as schedule
 use Rattle.worked_rows.specs.Scenarios.{driver, strike, disk, thread}
 
--- What drivers do that should not, and what stops them.
+-- Runs of drivers that do something forbidden, and what stops them.
 
 abbrev pub init_writes_an_object : Scenario
 init_writes_an_object = record {

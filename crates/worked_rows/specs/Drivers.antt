@@ -2,9 +2,9 @@ use Rattle.std.specs.Prelude.{ℕ, List, [], ◌∷◌, ◌++◌, codes}
 use Rattle.nook_data.specs.declared.classes.Class.TheVariants as class
 use Rattle.nook_data.specs.declared.scenario.Image.{Image}
 
--- The reference drivers as assembler texts, and one more block driver, for disks that fail.
+-- The reference drivers as assembler texts, and another block driver for disks that fail.
 
--- the entries get and set, the same in each: the device's registers are at ports 8 to 11
+-- the entries get and set, which are the same in each driver: the device's registers are at ports 8 to 11
 abbrev pub register_code : List ℕ
 register_code =
     codes "get: LI r5 1\nBEQ r1 r5 g1\nLI r5 2\nBEQ r1 r5 g2\nLI r5 3\nBEQ r1 r5 g3\n"
@@ -35,7 +35,7 @@ block_text =
     ++ codes "OUT r9 0\nADDI r1 r1 1\nSUB r2 r6\nBNE r2 r0 wblk\nRET r0\n"
     ++ register_code
 
--- a block driver that asks for the status behind each command, and replies 256 + i where block i of the call failed
+-- a block driver that reads the status after each command, and replies 256 + i if block i of the call failed
 abbrev pub failing_block_text : List ℕ
 failing_block_text =
     codes ".class block\n"
@@ -53,7 +53,7 @@ failing_block_text =
     ++ codes "bad: RET r11\n"
     ++ register_code
 
--- its text words
+-- the text words of that driver
 abbrev pub failing_block_words : List ℕ
 failing_block_words =
     0x01100000 ∷ 0x16000003 ∷ 0x01100000 ∷ 0x17100000 ∷ 0x01500010 ∷ 0x01600001 ∷ 0x01b00100 ∷ 0x15100001 ∷
@@ -66,12 +66,12 @@ failing_block_words =
     0x17000000 ∷ 0x01500001 ∷ 0x0f150041 ∷ 0x01500002 ∷ 0x0f150043 ∷ 0x01500003 ∷ 0x0f150045 ∷ 0x15200008 ∷
     0x17000000 ∷ 0x15200009 ∷ 0x17000000 ∷ 0x1520000a ∷ 0x17000000 ∷ 0x1520000b ∷ 0x17000000 ∷ []
 
--- its image
+-- the image of that driver
 abbrev pub failing_block_image : Image
 failing_block_image =
     record { class = class.Block; entries = 0 ∷ 4 ∷ 22 ∷ 42 ∷ 57 ∷ []; text = failing_block_words; initial = [] }
 
--- a net driver: a received frame is handed up from the stack page
+-- a net driver: it hands up a received frame from the stack page
 abbrev pub net_text : List ℕ
 net_text =
     codes ".class net\n"
@@ -87,7 +87,7 @@ net_text =
     ++ codes "pend: RET r0\n"
     ++ register_code
 
--- a sound driver: each sample is played at once
+-- a sound driver: it plays each sample at once
 abbrev pub sound_text : List ℕ
 sound_text =
     codes ".class sound\n"

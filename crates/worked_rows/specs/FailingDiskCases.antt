@@ -11,9 +11,9 @@ use Rattle.nook_data.specs.declared.scenario.ThreadSpec.{ThreadSpec}
 use Rattle.worked_rows.specs.Cases.{numbers, thread, injected, invoked, entered, done, registers, shadow_replies}
 use Rattle.worked_rows.specs.Cases.{replies, stopped, disk_with, failing_image, inventing_image}
 
--- Runs of a disk of which a block fails, and of a driver that invents words.
+-- Runs of a disk with a failing block, and of a driver that invents words.
 
--- ---- a driver answers a read with words of its own
+-- ---- a driver answers a read with invented words
 
 abbrev pub read_invented_part : PartSpec
 read_invented_part = disk_with inventing_image 1 [] 0 []
@@ -108,7 +108,7 @@ bad_block_report =
     ++ codes "3 p0 io_error 2\n"
     ++ codes "status 0\n"
 
--- ---- a block fails when a write that was cut is given again
+-- ---- a block fails when an interrupted write is submitted again
 
 abbrev pub bad_block_later_part : PartSpec
 bad_block_later_part = disk_with failing_image 4 (record { block = 1; after = 1 } ∷ []) 1 (injected 3 88 ∷ [])

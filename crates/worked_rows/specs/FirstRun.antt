@@ -1,6 +1,6 @@
 use Rattle.std.specs.Prelude.{ℕ, List, ◌++◌, codes}
 
--- A scenario as its bytes, and the whole report of its run.
+-- The bytes of a scenario, and the whole report of its run.
 
 abbrev pub write_and_read_json : List ℕ
 write_and_read_json =

@@ -24,7 +24,7 @@ use Rattle.worked_rows.specs.Cases.{of_part}
 use Rattle.worked_rows.specs.Scenarios.{disk, driver, link, stream, strike, thread}
 use Rattle.worked_rows.specs.Verdicts.{Verdict, verdict_of}
 
--- Runs that go wrong late: what is found of the events before.
+-- Runs that go wrong late, and the verdicts on the events before that.
 
 -- ---- runs
 
@@ -38,7 +38,7 @@ abbrev pub first_journal : List (List Event) → List Event
 first_journal [] = []
 first_journal (journal ∷ journals) = journal
 
--- the journal of a run that is at its end; of another, none
+-- the journal of a run that has ended; empty otherwise
 abbrev pub journal_at : Simulation → List Choice → List Event
 journal_at m [] = first_journal (journals_of m)
 journal_at m (c ∷ choices) = []
@@ -46,17 +46,17 @@ journal_at m (c ∷ choices) = []
 abbrev pub journal_after : Simulation → List Event
 journal_after m = journal_at m (choices_of m)
 
--- the journal of a part that one thread asks for these operations
+-- the journal of a part when one thread requests these operations
 abbrev pub journal_of : PartSpec → List Op → List Event
 journal_of spec ops = journal_after (runs 1000 (begins (alone spec ops)))
 
--- the driver's entry at this address replies at once that all is done, from that burst on
+-- from that burst on, the driver's entry at this address replies at once that all is done
 abbrev pub lies_at : ℕ → FaultKind
 lies_at address = fault.Code address 0x17000000
 
 -- ---- a clause is broken late
 
--- the first break, with the verdict on the events before it and the verdict on all
+-- the first break, with the verdicts on the events before it and on all events
 pub record LateBreak : Type 0 where
   pub broken : Option Break
   pub before : Verdict
@@ -73,25 +73,25 @@ late_break spec journal = record {
   all = verdict_of spec journal;
 }
 
--- the contract was kept, and the applications saw one run of a device that never fails, with licensed losses
+-- the contract was kept, and the applications saw one run of the never-failing device, with licensed losses
 abbrev pub transparent : ℕ → Verdict
 transparent failures = record { failures = failures; kept = true; one_run = true; licensed = true }
 
--- a block is written, read and written again, and the last Write stores nothing
+-- a block is written, read and written again; the last Write stores nothing
 abbrev pub lying_disk : PartSpec
 lying_disk = disk 2 0 block_image (strike 5 0 (lies_at 18) ∷ [])
 
 abbrev pub lying_disk_ops : List Op
 lying_disk_ops = op.Write 1 (replicate 16 1) ∷ op.Read 1 1 ∷ op.Write 1 (replicate 16 2) ∷ op.Read 1 1 ∷ []
 
--- a frame is sent, and of the next Send none comes to the wire
+-- one Send puts its frame on the wire, and the next one does not
 abbrev pub lying_link : PartSpec
 lying_link = link 0 net_image (strike 4 0 (lies_at 4) ∷ []) []
 
 abbrev pub lying_link_ops : List Op
 lying_link_ops = op.Send (1 ∷ []) ∷ op.Send (2 ∷ []) ∷ []
 
--- the stream is opened and two samples are played, and that of the next Play is not
+-- the stream is opened and two samples are played; the next Play does not play its sample
 abbrev pub lying_stream : PartSpec
 lying_stream = stream 0 sound_image (strike 5 0 (lies_at 6) ∷ [])
 
@@ -121,16 +121,16 @@ early_end spec journal = record {
   answers = answers_in (drop (length (events_alive (opening spec) journal)) journal);
 }
 
--- a block is written, and the driver traps in the Read; it may not fail once
+-- a block is written, and the driver traps in the Read; no failure is allowed
 abbrev pub frail_disk : PartSpec
 frail_disk = disk 2 0 block_image (strike 4 0 fault.Trap ∷ [])
 
 abbrev pub frail_disk_ops : List Op
 frail_disk_ops = op.Write 1 (replicate 16 1) ∷ op.Read 1 1 ∷ op.Read 7 1 ∷ op.Get 0 ∷ []
 
--- ---- a recovery as long as it may be
+-- ---- the longest recovery
 
--- the events up to and with the first failure
+-- the events up to and including the first failure
 abbrev pub up_to_failure : List Event → List Event
 up_to_failure [] = []
 up_to_failure (e ∷ events) = e ∷ (if carries_failure e then [] else up_to_failure events)
@@ -140,7 +140,7 @@ abbrev pub first_recovery : PartSpec → List Event → List Event
 first_recovery spec journal =
     while_away (state_of spec (up_to_failure journal)) (drop (length (up_to_failure journal)) journal)
 
--- a driver that yields as often as it may before each of its replies, so each call has 32 bursts
+-- a driver that yields as often as it may before each reply, so each call has 32 bursts
 abbrev pub slow_text : List ℕ
 slow_text =
     codes ".class sound\n"
@@ -150,13 +150,13 @@ slow_text =
     ++ codes "more: LI r6 1\n"
     ++ codes "yield: KCALL 8\nSUB r7 r6\nBNE r7 r0 yield\nRET r0\n"
 
--- all four keys are set and the stream is open, and the driver traps in the Play
+-- all four keys are set and the stream is open when the driver traps in the Play
 abbrev pub slow_stream : PartSpec
 slow_stream = stream 1 (driver slow_text) (strike 193 0 fault.Trap ∷ [])
 
 abbrev pub slow_stream_ops : List Op
 slow_stream_ops = op.Set 0 16000 ∷ op.Set 1 7 ∷ op.Set 2 2 ∷ op.Set 3 1 ∷ op.Open ∷ op.Play (10 ∷ []) ∷ []
 
--- how many stages and how many bursts some events have
+-- the number of stages and the number of bursts among some events
 abbrev pub lengths_of : List Event → ℕ × ℕ
 lengths_of events = (count_by is_stage events, count_by is_burst events)

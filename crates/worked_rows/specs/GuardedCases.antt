@@ -23,9 +23,9 @@ own_faults part = part.faults
 abbrev pub faults_of : Scenario → List (List Fault)
 faults_of s = map own_faults s.parts
 
--- A write of two blocks. Each block takes 86 turns, the third of them loads the first word and the fourth takes it to
--- the disk; three turns come before the first block. Behind turn 92, the third of the second block, the word that was
--- loaded is changed. The second store, in the last but three of that block's turns, is turn 172.
+-- A write of two blocks. Each block takes 86 instructions: the third loads the first word and the fourth outputs it to
+-- the disk. Three instructions come before the first block. After instruction 92, the third of the second block, the
+-- loaded word is changed. The second store, the fourth instruction from the end of that block, is instruction 172.
 
 abbrev pub changed_word : Fault
 changed_word = strike 3 92 (fault.Reg 8 9)
@@ -37,7 +37,7 @@ wrong_second_block = record {
   threads = thread (codes "t0") ((0, op.Write 0 (replicate 32 5)) ∷ []) ∷ [];
 }
 
--- so the guard's trap stands behind turn 171: the first block is stored, and the second is not
+-- so the guard's trap comes after instruction 171: the first block is stored, and the second is not
 abbrev pub wrong_second_block_faults : List (List Fault)
 wrong_second_block_faults = (changed_word ∷ strike 3 171 fault.Trap ∷ []) ∷ []
 
@@ -71,8 +71,8 @@ wrong_second_block_report =
     ++ codes "1 p0 done\n"
     ++ codes "status 0\n"
 
--- A read of one block, whose first word is changed in the buffer before the last of its 89 turns, the reply. The disk
--- may fail once.
+-- A read of one block. Its first word is changed in the buffer before the last of its 89 instructions, the reply. The
+-- disk may fail once.
 
 abbrev pub changed_buffer : Fault
 changed_buffer = strike 3 88 (fault.Poke 5184 9)
@@ -84,6 +84,6 @@ wrong_reply = record {
   threads = thread (codes "t0") ((0, op.Read 0 1) ∷ []) ∷ [];
 }
 
--- the trap stands before the reply, and behind the fault of the same place
+-- the trap comes before the reply, and after the fault at the same instruction
 abbrev pub wrong_reply_faults : List (List Fault)
 wrong_reply_faults = (changed_buffer ∷ strike 3 88 fault.Trap ∷ []) ∷ []

@@ -13,7 +13,7 @@ use Rattle.worked_rows.specs.Cases.{replies, stopped, link_with}
 
 -- Runs of a link, with the journal of its part and its report.
 
--- ---- a send is cut behind its frame, and another before it
+-- ---- a send is interrupted after its frame, and another before its frame
 
 abbrev pub send_cut_part : PartSpec
 send_cut_part = link_with 1 (injected 3 18 ∷ []) []

@@ -2,8 +2,8 @@ use Rattle.std.specs.Prelude.{◌≡◌, true, false, [], ◌∷◌}
 use Rattle.nook_data.specs.declared.entries.Entry.TheVariants as entry
 use Rattle.machine_defs.specs.Pages.{may_write}
 
--- what a driver may write, address by address at the edges of the table of pages: the text, the data, the stacks, the
--- buffer of context 0, of which the last word is 5,311, the last buffer, and the kernel objects
+-- what a driver may write, at the edges of the table of pages: the text, the data, the stacks, the buffer of context 0,
+-- whose last word is 5,311, the last buffer, and the kernel objects
 abbrev pub IsPageTable : Type 0
 IsPageTable =
     (may_write [] 0 ≡ false) × (may_write [] 2047 ≡ false) × (may_write [] 2048 ≡ true) × (may_write [] 4095 ≡ true)
@@ -12,7 +12,7 @@ IsPageTable =
     × (may_write [] 7360 ≡ false) × (may_write [] 8191 ≡ false) × (may_write [] 8192 ≡ false)
     × (may_write [] 4294967295 ≡ false)
 
--- a buffer that is lent for writing may be written, one that is lent for reading may not, and no other is touched
+-- a buffer lent for writing may be written, one lent for reading may not, and no other becomes writable
 abbrev pub IsLentBuffer : Type 0
 IsLentBuffer =
     (may_write (entry.Buffer 0 true ∷ []) 5183 ≡ true) × (may_write (entry.Buffer 0 true ∷ []) 5184 ≡ true)

@@ -20,7 +20,7 @@ use Rattle.run_defs.specs.Simulation.{Simulation, Choice, begins, runs, choices_
 
 -- Small scenarios, and the reports of their runs.
 
--- the image of an assembler text; of a text with a fault, none that a case names
+-- the image of an assembler text, or some other image if the text has an error
 abbrev pub image_or : Result Image AsmFault → Image
 image_or (Ok image) = image
 image_or (Err fault) = block_image
@@ -28,11 +28,11 @@ image_or (Err fault) = block_image
 abbrev pub driver : List ℕ → Image
 driver text = image_or (assembled text)
 
--- a fault of a burst behind so many of its turns
+-- a fault in a burst, after this many of its instructions
 abbrev pub strike : ℕ → ℕ → FaultKind → Fault
 strike burst after kind = record { burst = burst; after = after; kind = kind }
 
--- parts with so many failures allowed, a driver and faults
+-- parts with a limit of failures, a driver and faults
 abbrev pub disk : ℕ → ℕ → Image → List Fault → PartSpec
 disk blocks limit image faults = record {
   name = codes "d0";
@@ -72,7 +72,7 @@ stream limit image faults = record {
 abbrev pub thread : List ℕ → List (ℕ × Op) → ThreadSpec
 thread name ops = record { name = name; ops = ops }
 
--- the report of a run without listeners; of a run that is not at its end, no text
+-- the report of a run without listeners; empty if the run has not ended
 abbrev pub report_at : Scenario → Simulation → List Choice → List ℕ
 report_at s m [] = report_text s (journals_of m) (answer_table m) [] (status_of s.parts (journals_of m))
 report_at s m (c ∷ choices) = []
@@ -84,7 +84,7 @@ report_after s m = report_at s m (choices_of m)
 abbrev pub report_of : Scenario → List ℕ
 report_of s = report_after s (runs 100000 (begins s))
 
--- what is written for the bytes of a scenario: its report, or its first fault
+-- what is written for the bytes of a scenario: its report, or its first input error
 abbrev pub output_of : Result Scenario Refusal → List ℕ
 output_of (Ok s) = report_of s
 output_of (Err fault) = fault_line fault
@@ -92,7 +92,7 @@ output_of (Err fault) = fault_line fault
 abbrev pub output : List ℕ → List ℕ
 output bytes = output_of (scenario_from bytes)
 
--- the summary line of a generated scenario, and the number of each of its threads' answers
+-- the summary line of a generated scenario, and how many answers each of its threads got
 abbrev pub summary_after : ℕ → Scenario → Simulation → List Choice → List ℕ
 summary_after n s m [] = summary_line n s.parts (journals_of m)
 summary_after n s m (c ∷ choices) = []

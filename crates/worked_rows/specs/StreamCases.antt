@@ -13,7 +13,7 @@ use Rattle.worked_rows.specs.Cases.{replies, stopped, stream_with}
 
 -- Runs of a stream, with the journal of its part and its report.
 
--- ---- a play is cut, and the configuration and the stream are brought back
+-- ---- a play is interrupted, and the configuration and the stream are restored
 
 abbrev pub play_cut_part : PartSpec
 play_cut_part = stream_with 1 (injected 5 11 ∷ [])
@@ -110,7 +110,7 @@ play_cut_report =
     ++ codes "5 p0 done\n"
     ++ codes "status 0\n"
 
--- ---- the first init is cut, and threads ask for the stream meanwhile
+-- ---- the first init is interrupted, and threads ask for the stream meanwhile
 
 abbrev pub init_cut_part : PartSpec
 init_cut_part = stream_with 1 (injected 1 0 ∷ [])

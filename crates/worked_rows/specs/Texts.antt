@@ -16,30 +16,30 @@ use Rattle.nook_data.specs.declared.scenario.ScheduleSpec.TheVariants as schedul
 use Rattle.input_defs.specs.declared.input.Refusal.{Refusal}
 use Rattle.worked_rows.specs.Drivers.{failing_block_image}
 
--- what is written: the text of what was read, or the fault's line
-abbrev pub told : {T : Type 0} → (T → List ℕ) → Result T Refusal → List ℕ
-told text (Ok read) = text read
-told text (Err refusal) = fault_line refusal
+-- what is written: the text of what was read, or the line of the input error
+abbrev pub reported : {T : Type 0} → (T → List ℕ) → Result T Refusal → List ℕ
+reported text (Ok read) = text read
+reported text (Err refusal) = fault_line refusal
 
--- what is told of an input: nothing where it is right, else its first fault
-abbrev pub told_fault : {T : Type 0} → Result T Refusal → List ℕ
-told_fault read = told (λ right. []) read
+-- what is reported for an input: nothing if it is right, else its first input error
+abbrev pub reported_fault : {T : Type 0} → Result T Refusal → List ℕ
+reported_fault read = reported (λ right. []) read
 
 abbrev pub scenario_fault : List ℕ → List ℕ
-scenario_fault bytes = told_fault (scenario_from bytes)
+scenario_fault bytes = reported_fault (scenario_from bytes)
 
 abbrev pub image_fault : List ℕ → List ℕ
-image_fault bytes = told_fault (image_from bytes)
+image_fault bytes = reported_fault (image_from bytes)
 
 -- what `asm` writes for the bytes that it reads
 abbrev pub asm_output : List ℕ → List ℕ
-asm_output bytes = told image_text (image_from_asm bytes)
+asm_output bytes = reported image_text (image_from_asm bytes)
 
 -- what `dis` writes for the bytes that it reads
 abbrev pub dis_output : List ℕ → List ℕ
-dis_output bytes = told disassembled (image_from bytes)
+dis_output bytes = reported disassembled (image_from bytes)
 
--- ---- a small driver, which answers every read with a word of its own
+-- ---- a small driver, which answers every read with an invented word
 
 abbrev pub lying_text : List ℕ
 lying_text =
@@ -52,7 +52,7 @@ lying_json =
     codes "{\"class\":\"block\",\"data\":[],\"entries\":{\"get\":4,\"init\":0,\"read\":4,\"set\":4,\"write\":4},"
     ++ codes "\"text\":[\"01100000\",\"16000003\",\"01100000\",\"17100000\",\"01500001\",\"0d530000\",\"17000000\"]}\n"
 
--- the same as the disassembler writes it
+-- the same driver as the disassembler writes it
 abbrev pub lying_numbers : List ℕ
 lying_numbers =
     codes ".class block\n.entry init 0\n.entry read 4\n.entry write 4\n.entry get 4\n.entry set 4\n"
@@ -60,7 +60,7 @@ lying_numbers =
 
 -- ---- one thread writes a block and reads it back
 
--- the block driver's init, read and write; get and set end in a fault
+-- the block driver's init, read and write; get and set end in the instruction `FAULT`
 abbrev pub short_image : Image
 short_image = record {
   class = class.Block;
@@ -110,7 +110,7 @@ write_and_read = record {
 abbrev pub driver_json : Image → List ℕ
 driver_json image = codes "{\"image\":" ++ compact_text (image_data image) ++ codes "}"
 
--- a scenario of a version, in which block 2 fails from its first command on
+-- a scenario of this version, in which block 2 fails from its first command on
 abbrev pub bad_block_json : List ℕ → List ℕ
 bad_block_json version =
     codes "{\"version\":" ++ version ++ codes ",\"parts\":[{\"name\":\"d0\",\"class\":\"block\",\"driver\":"

@@ -14,11 +14,11 @@ use Rattle.run_defs.specs.Simulation.{Simulation, Choice, begins, runs, choices_
 use Rattle.promise_defs.specs.Trace.{trace}
 use Rattle.worked_rows.specs.Scenarios.{strike, disk, link, stream, thread}
 
--- Runs in which failures fall inside Init, inside replays, inside a write of eight blocks and inside its resubmission,
--- and what is found of them.
+-- Runs with failures in Init, in replays, in a write of eight blocks and in its resubmission, and the verdicts on
+-- these runs.
 
--- of a journal: how often its driver failed, whether it kept its class's contract, whether its trace is one run of the
--- never-failing device, and whether it is licensed
+-- a verdict on a journal: how often its driver failed, whether it kept its class contract, whether its trace is one run
+-- of the never-failing device, and whether its losses are licensed
 pub record Verdict : Type 0 where
   pub failures : ℕ
   pub kept : Bool
@@ -45,11 +45,11 @@ verdicts_at s m (c ∷ choices) = []
 abbrev pub verdicts_after : Scenario → Simulation → List Verdict
 verdicts_after s m = verdicts_at s m (choices_of m)
 
--- the verdicts of a scenario's parts, once its run is at its end
+-- the verdicts on a scenario's parts, once its run has ended
 abbrev pub verdicts_of : Scenario → List Verdict
 verdicts_of s = verdicts_after s (runs 100000 (begins s))
 
--- with so many failures the driver kept its contract, and the applications saw one run, licensed
+-- with this many failures the driver kept its contract, and the applications saw one run, with licensed losses
 abbrev pub recovered : ℕ → List Verdict
 recovered failures = record { failures = failures; kept = true; one_run = true; licensed = true } ∷ []
 
@@ -57,7 +57,7 @@ abbrev pub eight_blocks : List ℕ
 eight_blocks = replicate 128 7
 
 -- a disk that fails in its first init, in the middle of a write of eight blocks, in the replay of its configuration,
--- and in the middle of the write again
+-- and in the middle of the resubmitted write
 abbrev pub failing_disk : Scenario
 failing_disk = record {
   schedule = schedule.RoundRobin;
@@ -67,7 +67,7 @@ failing_disk = record {
       ((0, op.Set 1 3) ∷ (0, op.Write 0 eight_blocks) ∷ (0, op.Read 0 8) ∷ (0, op.Get 1) ∷ []) ∷ [];
 }
 
--- a link that fails in its first init, behind a frame that is on the wire, and in the replay of its configuration
+-- a link that fails in its first init, after a frame is on the wire, and in the replay of its configuration
 abbrev pub failing_link : Scenario
 failing_link = record {
   schedule = schedule.RoundRobin;
@@ -78,7 +78,7 @@ failing_link = record {
 }
 
 -- a stream that fails in its first init, in the middle of a play, in the replay of its configuration, and when it is
--- opened again
+-- reopened
 abbrev pub failing_stream : Scenario
 failing_stream = record {
   schedule = schedule.RoundRobin;

@@ -1,4 +1,4 @@
-//! Assembler texts and the images that they are, both ways, and what is wrong with the others.
+//! Assembler texts and their images, in both directions, and the errors of wrong texts.
 #![tactic(auto, unfolding(crate::proofs::InputOnLiterals::input_on_literals))]
 
 ghost use Rattle.std.specs.Prelude.{ℕ, ◌<◌, ◌^◌, ◌≡◌, ◌∷◌, ◌++◌, [], Ok, Err, Some, codes, replicate};
@@ -18,40 +18,40 @@ ghost use Rattle.worked_rows.specs.Texts.{asm_output, dis_output, lying_text, ly
 
 use nook_data::scenario::Image;
 
-/// The text of the block driver is its image.
+/// The text of the block driver assembles to its image.
 pub fn block_driver_assembles()
     ensures { assembled block_text ≡ Ok block_image }
 {}
 
-/// The text of the block driver for disks that fail is its image.
+/// The text of the block driver for disks that fail assembles to its image.
 pub fn failing_block_driver_assembles()
     ensures { assembled failing_block_text ≡ Ok failing_block_image }
 {}
 
-/// The text of the net driver is its image.
+/// The text of the net driver assembles to its image.
 pub fn net_driver_assembles()
     ensures { assembled net_text ≡ Ok net_image }
 {}
 
-/// The text of the sound driver is its image.
+/// The text of the sound driver assembles to its image.
 pub fn sound_driver_assembles()
     ensures { assembled sound_text ≡ Ok sound_image }
 {}
 
-/// The text that is written for any valid image assembles to that image again.
+/// The text that is written for any valid image assembles to that image.
 #[tactic(auto, using(asm_defs::proofs::AsmWhole::comes_back))]
 pub fn images_come_back(image: &Image)
     requires { IsValidImage image.now }
     ensures { assembled (disassembled image.now) ≡ Ok image.now }
 {}
 
-/// A word that is an instruction is the one word of that instruction.
+/// A word that decodes to an instruction is the only word of that instruction.
 #[tactic(auto, using(asm_defs::proofs::AsmDecoded::encodes_back))]
 pub fn decoded_words_encode_back()
     ensures { (word : ℕ) (instr : Instr) → word < 2 ^ 32 → decode_of word ≡ Some instr → encode_of instr ≡ word }
 {}
 
-/// So do those of the reference drivers, computed.
+/// The texts written for the reference drivers' images assemble to those images, by computation.
 pub fn reference_drivers_come_back()
     ensures block { assembled (disassembled block_image) ≡ Ok block_image }
     ensures failing { assembled (disassembled failing_block_image) ≡ Ok failing_block_image }
@@ -74,17 +74,17 @@ pub fn unknown_mnemonic()
     ensures { asm_output (codes ".class block\na: LI r1 0\nFOO r1\n") ≡ codes "fault 8 bad_asm 2 line 3 /\n" }
 {}
 
-/// A second definition in a line stands where a statement begins. The number in the next line is not told.
+/// A second definition in a line is no statement. The number in the next line, which is too large, is not reported.
 pub fn second_definition_in_a_line()
     ensures { asm_output (codes ".class block\nx: x: RET r0\nLI r1 70000\n") ≡ codes "fault 8 bad_asm 3 line 2 /\n" }
 {}
 
-/// An empty text has no class, which stands behind its last line.
+/// An empty text has no class, which is reported at the line after its last.
 pub fn empty_text()
     ensures { asm_output [] ≡ codes "fault 8 bad_asm 9 line 1 /\n" }
 {}
 
-/// A token is a whole run; a comment may hold any byte.
+/// A token is a whole run of bytes; a comment may contain any byte.
 pub fn bad_tokens()
     ensures glued { asm_output (codes "x:LI r1 0") ≡ codes "fault 8 bad_asm 1 line 1 /\n" }
     ensures later { asm_output (codes "; \"any\" (byte)\nFOO 5x") ≡ codes "fault 8 bad_asm 1 line 2 /\n" }
@@ -93,7 +93,7 @@ pub fn bad_tokens()
     ensures comment { asm_output (59 ∷ 255 ∷ 10 ∷ codes "FOO") ≡ codes "fault 8 bad_asm 2 line 2 /\n" }
 {}
 
-/// A line with several faults tells the smallest kind.
+/// A line with several errors reports the smallest kind.
 pub fn smallest_kind()
     ensures class { asm_output (codes ".class foo bar") ≡ codes "fault 8 bad_asm 2 line 1 /\n" }
     ensures register { asm_output (codes "r1: FOO") ≡ codes "fault 8 bad_asm 2 line 1 /\n" }
@@ -117,7 +117,7 @@ pub fn number_ranges()
         ≡ codes "fault 8 bad_asm 4 line 2 /\n" }
 {}
 
-/// What is given twice, also with the same value.
+/// Something is given twice, even with the same value.
 pub fn given_twice()
     ensures class { asm_output (codes ".class net\n.class net") ≡ codes "fault 8 bad_asm 5 line 2 /\n" }
     ensures entry { asm_output (codes ".class net\n.entry init 0\n.entry init 0")
@@ -125,7 +125,7 @@ pub fn given_twice()
     ensures label { asm_output (codes "r16: RET r0\nr16: RET r0") ≡ codes "fault 8 bad_asm 5 line 2 /\n" }
 {}
 
-/// At most 2,048 words in each section: the next one is a fault of its line.
+/// Each section has at most 2,048 words; one more is an error of its line.
 pub fn too_many_words()
     ensures text { draft_after no_labels 9 (codes ".word" ∷ codes "0" ∷ [])
         (record first_draft { text = replicate 2048 0 }) ≡ Err fault.TextTooLong }
@@ -135,10 +135,10 @@ pub fn too_many_words()
         (record first_draft { in_section = section.Data; initial = replicate 2048 0 }) ≡ Err fault.DataTooLong }
 {}
 
-/// Each mnemonic has a name of its own, and the instruction of a mnemonic and an instruction's fields is that
-/// instruction.
+/// Each mnemonic has its own name, and the mnemonic and the fields of an instruction make that instruction
+/// again.
 #[tactic(auto, using(asm_defs::proofs::AsmInstrs::named_mnemonic, asm_defs::proofs::AsmInstrs::instr_of_fields))]
-pub fn mnemonics_are_told_apart()
+pub fn mnemonics_are_distinguished()
     ensures named { (m : Mnemonic) → mnemonic_named (mnemonic_text m) ≡ Some m }
     ensures made { (i : Instr) → instr_with (fields_of i).mnemonic (fields_of i).a (fields_of i).b (fields_of i).imm
         ≡ i }

@@ -6,21 +6,21 @@ ghost use Rattle.std.specs.List.{AllByRecursion};
 ghost use Rattle.std.specs.Prelude.{◌≡◌, map};
 ghost use Rattle.worked_rows.specs.Clauses.{Case, IsJudged, clause_cases, further_cases, lossy, lost_there};
 
-/// For each clause of the contract, in order, an event breaks it, and one in its place breaks none.
+/// For each clause of the contract, in order, one event breaks it, and an alternative to that event breaks none.
 #[tactic(auto, using(crate::proofs::ClauseCases::every_clause, crate::proofs::ClauseCases::clauses_judged))]
 pub fn each_clause_has_its_case()
     ensures each { map (λ (c : Case). c.clause) clause_cases ≡ all_clauses }
     ensures judged { AllByRecursion IsJudged clause_cases }
 {}
 
-/// The same of a replay, of a Write after Stop, of two breaks in one burst, and of a frame handed up in the attempt.
+/// The same for a replay, a Write after Stop, two breaks in one burst, and a frame handed up in the attempt.
 #[tactic(auto, using(crate::proofs::ClauseCases::further_judged))]
 pub fn further_clauses_are_judged()
     ensures { AllByRecursion IsJudged further_cases }
 {}
 
-/// A journal with losses of almost each kind has just these.
-#[tactic(auto, using(crate::proofs::ClauseCases::losses_told))]
+/// A journal with almost every kind of loss has exactly these losses.
+#[tactic(auto, using(crate::proofs::ClauseCases::losses_reported))]
 pub fn losses_are_counted()
     ensures { losses lossy ≡ lost_there }
 {}

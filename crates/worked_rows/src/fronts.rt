@@ -1,4 +1,4 @@
-//! Runs that go wrong late: what their fronts promise, what a part answers that is given up, and the longest recovery.
+//! Runs that go wrong late: what their prefixes promise, what a given-up part answers, and the longest recovery.
 #![tactic(auto, unfolding(crate::proofs::OnLiterals::nook_on_literals))]
 
 ghost use Rattle.std.specs.Prelude.{[], ◌∷◌, ◌≡◌, Some, false, true};
@@ -37,7 +37,7 @@ pub fn stream_lies_late()
 {}
 
 /// A disk is given up at its first failure, in a Read. The events before are one run of a disk that never fails; that
-/// Read and the Get after it are answered Gone, and a Read past the disk's end by the static check.
+/// Read and the Get after it are answered Gone, and the static check answers a Read past the disk's end.
 pub fn disk_is_given_up()
     ensures { early_end frail_disk (journal_of frail_disk frail_disk_ops) ≡ record {
       before = transparent 1;
@@ -46,7 +46,7 @@ pub fn disk_is_given_up()
 {}
 
 /// A stream with all four keys set fails while it is open, and its driver takes 32 bursts for each call. The recovery
-/// has every stage that there is, and no recovery is longer.
+/// has every possible stage, and no recovery is longer.
 pub fn slow_stream_recovers()
     ensures { lengths_of (first_recovery slow_stream (journal_of slow_stream slow_stream_ops)) ≡ (11, 192) }
 {}

@@ -1,4 +1,4 @@
-//! Scenarios and images from bytes, and the first fault of those that are wrong.
+//! Scenarios and images read from bytes, and the first error of wrong inputs.
 #![tactic(auto, unfolding(crate::proofs::InputOnLiterals::input_on_literals))]
 
 ghost use Rattle.std.specs.Prelude.{◌≡◌, ◌∷◌, ◌++◌, [], Ok, codes, true, false};
@@ -25,12 +25,12 @@ pub fn write_and_read_is_read()
     ensures { scenario_from write_and_read_json ≡ Ok write_and_read }
 {}
 
-/// A disk with a bad block, in the version that has them.
+/// A disk with a bad block, in the version that allows it.
 pub fn bad_block_is_read()
     ensures { scenario_from (bad_block_json (codes "2")) ≡ Ok bad_block }
 {}
 
-/// In version 1 no part has bad blocks.
+/// Version 1 allows no bad blocks.
 pub fn bad_block_of_version_1()
     ensures { scenario_fault (bad_block_json (codes "1")) ≡ codes "fault 2 unknown_key /parts/0\n" }
 {}
@@ -48,16 +48,16 @@ pub fn image_text_reads_back()
     ensures sound { image_from (image_text sound_image) ≡ Ok sound_image }
 {}
 
-/// Bytes that are no JSON: cut short, not UTF-8, or with something behind the value.
+/// Bytes that are not JSON: truncated, not UTF-8, or with something after the value.
 pub fn not_json()
     ensures cut { scenario_fault (codes "{\"version\":1,\"par") ≡ codes "fault 1 not_json /\n" }
     ensures empty { scenario_fault [] ≡ codes "fault 1 not_json /\n" }
     ensures no_text { scenario_fault (123 ∷ 255 ∷ 125 ∷ []) ≡ codes "fault 1 not_json /\n" }
-    ensures behind { scenario_fault (codes "{} {}") ≡ codes "fault 1 not_json /\n" }
+    ensures rest_after { scenario_fault (codes "{} {}") ≡ codes "fault 1 not_json /\n" }
     ensures number { scenario_fault (codes "{\"version\":1e400}") ≡ codes "fault 1 not_json /\n" }
 {}
 
-/// Unknown keys come before keys that are missing, and a missing key before what stands behind it.
+/// An unknown key is reported before a missing key, and a missing key before errors in what follows it.
 pub fn unknown_and_missing_keys()
     ensures unknown { scenario_fault (codes "{\"versions\":1}") ≡ codes "fault 2 unknown_key /\n" }
     ensures missing { scenario_fault (codes "{\"parts\":0}") ≡ codes "fault 3 missing_key /version\n" }
@@ -75,7 +75,7 @@ pub fn unknown_and_missing_keys()
         ≡ codes "fault 3 missing_key /parts/0/driver/image\n" }
 {}
 
-/// Numbers count only where they are shown as whole and not negative.
+/// A number counts only if it is written as whole and non-negative.
 pub fn wrong_kinds_and_ranges()
     ensures root { scenario_fault (codes "[]") ≡ codes "fault 4 wrong_kind /\n" }
     ensures float { scenario_fault (codes "{\"version\":1.0}") ≡ codes "fault 4 wrong_kind /version\n" }
@@ -96,7 +96,7 @@ pub fn wrong_kinds_and_ranges()
         ≡ codes "fault 4 wrong_kind /parts/0/name\n" }
 {}
 
-/// Lists with too few items or too many.
+/// Lists with too few or too many items.
 pub fn lengths_of_lists()
     ensures none { scenario_fault (codes "{\"version\":1,\"parts\":[]}") ≡ codes "fault 5 number_range /parts\n" }
     ensures many { scenario_fault (codes "{\"version\":1,\"parts\":[0,0,0,0,0,0,0,0,0]}")
@@ -108,7 +108,7 @@ pub fn lengths_of_lists()
         ≡ codes "fault 5 number_range /parts/0/arrivals/1\n" }
 {}
 
-/// Classes, images and assembler texts that are wrong.
+/// Wrong classes, images and assembler texts.
 pub fn wrong_drivers()
     ensures class { scenario_fault (codes "{\"version\":1,\"parts\":[{\"class\":\"tape\"}]}")
         ≡ codes "fault 9 bad_class /parts/0/class\n" }

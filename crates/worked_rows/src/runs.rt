@@ -46,32 +46,32 @@ pub fn init_writes_an_object()
     ensures { report_of init_writes_an_object_run ≡ init_writes_an_object_report }
 {}
 
-/// A buffer may be written while it is lent and no longer.
+/// A buffer may be written only while it is lent.
 pub fn buffer_lent_for_one_call()
     ensures { report_of buffer_lent_for_one_call_run ≡ buffer_lent_for_one_call_report }
 {}
 
-/// A word with a field set that its form does not name is no instruction.
+/// A word that sets a field which its form lacks is no instruction.
 pub fn no_such_instruction()
     ensures { report_of no_such_instruction_run ≡ no_such_instruction_report }
 {}
 
-/// 4,096 turns without a crossing are a hang.
+/// 4,096 instructions without a crossing are a hang.
 pub fn jump_to_itself()
     ensures { report_of jump_to_itself_run ≡ jump_to_itself_report }
 {}
 
-/// A kernel call as the 4,096th turn is a crossing.
+/// A kernel call as the 4,096th instruction is a crossing.
 pub fn crossing_at_the_last_turn()
     ensures { report_of crossing_at_the_last_turn_run ≡ crossing_at_the_last_turn_report }
 {}
 
-/// At most 64 allocations stand together, also over calls, and Collect names each.
+/// At most 64 allocations exist at a time, even across calls, and Collect names each.
 pub fn sixty_four_allocations()
     ensures { report_of sixty_four_allocations_run ≡ sixty_four_allocations_report }
 {}
 
-/// A copy that was not given back at a failure changes no object; one that was, did.
+/// After a failure, an object has changed only if its copy was given back before.
 pub fn borrowed_copy_not_written_back()
     ensures { report_of borrowed_copy_not_written_back_run ≡ borrowed_copy_not_written_back_report }
 {}
@@ -106,17 +106,17 @@ pub fn given_up_past_the_limit()
     ensures { report_of given_up_past_the_limit_run ≡ given_up_past_the_limit_report }
 {}
 
-/// Three failures with three allowed: the call is served in the end.
+/// Three failures with three allowed: the call is finally served.
 pub fn kept_within_the_limit()
     ensures { report_of kept_within_the_limit_run ≡ kept_within_the_limit_report }
 {}
 
-/// A fault writes a lent buffer, and not another context's: the read breaks its contract.
+/// A fault writes a lent buffer, but not that of another context: the read breaks its contract.
 pub fn poked_buffer()
     ensures { report_of poked_buffer_run ≡ poked_buffer_report }
 {}
 
-/// A listed schedule is followed, a pick of no enabled actor is passed over, and round robin goes on.
+/// A listed schedule is followed, a pick of an actor that is not enabled is skipped, and round robin continues.
 pub fn listed_picks()
     ensures { report_of listed_picks_run ≡ listed_picks_report }
 {}
@@ -131,13 +131,13 @@ pub fn frame_up_and_none_left()
     ensures { report_of frame_up_and_none_left_run ≡ frame_up_and_none_left_report }
 {}
 
-/// A stream is opened, configured, played, asked and closed.
+/// A stream is opened, configured, played, queried and closed.
 pub fn stream_with_its_volume()
     ensures { report_of stream_with_its_volume_run ≡ stream_with_its_volume_report }
 {}
 
-/// The generated scenario of twelve operations a thread, under its drawn schedule: its summary, with seven failures of
-/// the disk.
+/// The generated scenario with twelve operations per thread, under its drawn schedule: its summary, with seven failures
+/// of the disk.
 pub fn generated_of_twelve()
     ensures summary { summary_of 12 ≡ codes "gen 12 events 251 failures 7 status 0\n" }
     ensures answers { answers_of 12 ≡ 12 ∷ 12 ∷ 12 ∷ 12 ∷ [] }

@@ -1,7 +1,7 @@
 //! Small laws of the class tables.
 
 ghost use Rattle.std.specs.Prelude.{◌≡◌, ◌<◌, ◌+◌, ℕ, true, Some, length, slice_get};
-ghost use Rattle.nook_data.specs.Classes.{conflicts, is_of_class, entry_count, entry_place, accept, blocks_of_op};
+ghost use Rattle.nook_data.specs.Classes.{conflicts, is_of_class, entry_count, entry_address, accept, blocks_of_op};
 ghost use Rattle.nook_data.specs.Classes.{first_of_op};
 ghost use Rattle.nook_data.specs.declared.classes.Accept.TheVariants.{IoError};
 ghost use Rattle.worked_rows.specs.EntryNames.{entry_name, entry_names};
@@ -15,11 +15,11 @@ pub fn conflicts_are_symmetric(class: Class, first: &Op, second: &Op)
     ensures { conflicts class first.now second.now ≡ conflicts class second.now first.now }
 {}
 
-/// The place of an operation's entry has the entry's name.
+/// The name at the index of an operation's entry is that entry's name.
 #[tactic(auto, using(crate::proofs::ClassLaws::entry_named))]
-pub fn entries_have_their_places(class: Class, op: &Op)
+pub fn entries_have_their_addresses(class: Class, op: &Op)
     requires { is_of_class class op.now ≡ true }
-    ensures { slice_get (entry_names class) (entry_place class op.now) ≡ Some (entry_name op.now) }
+    ensures { slice_get (entry_names class) (entry_address class op.now) ≡ Some (entry_name op.now) }
 {}
 
 /// There are as many entries as names.
@@ -28,9 +28,9 @@ pub fn entries_are_counted(class: Class)
     ensures { entry_count class ≡ length (entry_names class) }
 {}
 
-/// The status 256 + `place` tells that the block at this place of a read or write failed.
+/// The status 256 + `place` reports that the block with this index in a read or write failed.
 #[tactic(auto, using(crate::proofs::ClassLaws::io_status_accepted))]
-pub fn block_statuses_are_accepted(op: &Op, place: u32)
-    requires { place < blocks_of_op op.now }
-    ensures { accept op.now (256 + place) ≡ IoError (first_of_op op.now + place) }
+pub fn block_statuses_are_accepted(op: &Op, index: u32)
+    requires { index < blocks_of_op op.now }
+    ensures { accept op.now (256 + index) ≡ IoError (first_of_op op.now + index) }
 {}

@@ -17,18 +17,18 @@ export class BurstView {
     this.items = new LongList("items mono", TURN_ROW, (index) => this.itemRow(index + 1));
     this.source = new LongList("source mono", TURN_ROW, (index) => this.sourceRow(index));
     this.head = element("div", { class: "burst-head" });
-    this.slider = element("input", { type: "range", min: 0, "aria-label": "turn of the burst", oninput: () => go(Number(this.slider.value)) });
+    this.slider = element("input", { type: "range", min: 0, "aria-label": "instruction of the burst", oninput: () => go(Number(this.slider.value)) });
     this.where = element("output", { class: "turn-where" });
     this.registers = element("div", { class: "registers mono" });
     this.words = element("div", { class: "changed-words mono" });
     this.said = element("div", { class: "turn-said" });
     const button = (text, label, move) => element("button", { type: "button", title: label, "aria-label": label, onclick: () => go(this.turn + move) }, text);
     this.whole = element("div", { class: "burst-whole" },
-      element("div", { class: "bar turn-bar" }, button("\u25b2", "one turn back (arrow up)", -1), button("\u25bc", "one turn on (arrow down)", 1), this.slider, this.where),
+      element("div", { class: "bar turn-bar" }, button("\u25b2", "one instruction back (arrow up)", -1), button("\u25bc", "one instruction forward (arrow down)", 1), this.slider, this.where),
       this.said, element("div", { class: "row item heads" }, ...[["turn", "number"], ["line", "number"], ["the driver's text", "instruction"], ["what it does", "effect"]].map(([text, kind]) => element("span", { class: `cell ${kind}` }, text))),
       this.items.holder,
       element("div", { class: "below" },
-        element("div", {}, element("h4", {}, "Registers after this turn"), this.registers),
+        element("div", {}, element("h4", {}, "Registers after this instruction"), this.registers),
         element("div", { class: "text" }, element("h4", {}, "The driver's text"), this.source.holder)),
       element("h4", {}, "Words of memory that this burst changed"), this.words);
     this.without = element("p", { class: "none" });
@@ -79,13 +79,13 @@ export class BurstView {
 
   showHead(number) {
     const { head, device } = this.burst;
-    this.head.replaceChildren(element("h3", {}, `Burst ${number}, turn by turn`), element("p", {}, head), device ? element("p", {}, `device before: ${device}`) : "");
+    this.head.replaceChildren(element("h3", {}, `Burst ${number}, instruction by instruction`), element("p", {}, head), device ? element("p", {}, `device before: ${device}`) : "");
     const item = this.burst.items[this.turn - 1];
     const turns = this.burst.items.filter((each) => each[0]).length;
-    this.where.textContent = this.turn === 0 ? `before turn 1 of ${turns}` : item[0] ? `turn ${item[0]} of ${turns}` : `${item[3] ? "the guard" : "a fault"}, after turn ${item[1]}`;
+    this.where.textContent = this.turn === 0 ? `before instruction 1 of ${turns}` : item[0] ? `instruction ${item[0]} of ${turns}` : `${item[3] ? "the guard" : "a fault"}, after instruction ${item[1]}`;
     const ends = this.turn === this.burst.items.length;
     const said = [];
-    if (this.turn > 0 && this.turn === this.burst.breaks) said.push(element("b", { class: "broken" }, `CONTRACT BROKEN by this turn: ${item[2]}. `));
+    if (this.turn > 0 && this.turn === this.burst.breaks) said.push(element("b", { class: "broken" }, `CONTRACT BROKEN by this instruction: ${item[2]}. `));
     const isGuard = item !== undefined && !item[0] && item[3];
     if (item && !item[0]) said.push(element("b", { class: "fault-text" }, isGuard ? "The GUARD stops the driver here. " : `FAULT of the scenario: ${item[2]}. `));
     if (ends && !isGuard) said.push(`The burst ends: ${this.burst.cause || this.burst.end}.`);
@@ -119,7 +119,7 @@ export class BurstView {
       click.stopPropagation();
       this.addFault(turn);
     };
-    return element("button", { type: "button", class: "place", tabindex: -1, title: `place the fault before turn ${turn} (f)`, onclick: clicked }, "fault");
+    return element("button", { type: "button", class: "place", tabindex: -1, title: `add the fault before instruction ${turn} (f)`, onclick: clicked }, "fault");
   }
 
   /** The instruction before which a fault is added: the selected one, or the one after a selected fault; 0 for none. */

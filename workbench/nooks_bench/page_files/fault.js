@@ -5,7 +5,7 @@ import { element } from "./elements.js";
 /** What each kind does, in words. */
 const KIND_WORDS = {
   trap: "the driver stops",
-  hang: "the driver goes on for ever",
+  hang: "the driver never ends its burst",
   reg: "a register gets another word",
   poke: "a word of memory gets another value",
   code: "a word of its text gets another value",

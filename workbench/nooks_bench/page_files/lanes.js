@@ -112,8 +112,8 @@ class Drawing {
   }
 
   shadow() {
-    this.begin("shadow", "what stands in for the driver: it answers calls, and enters the new driver itself");
-    for (const [mode, first, last] of this.lanes.spans) if (mode === "recovers") this.bar(first, last, "stands-in", "the shadow stands in for the driver");
+    this.begin("shadow", "the substitute for the driver: it answers calls, and enters the new driver itself");
+    for (const [mode, first, last] of this.lanes.spans) if (mode === "recovers") this.bar(first, last, "stands-in", "the shadow replaces the driver");
     for (const event of this.events()) {
       const burst = this.lanes.bursts[event];
       if (burst && burst[0] === SHADOW) this.tick(event, "a burst of the driver for the shadow");
@@ -160,7 +160,7 @@ class Drawing {
       const burst = this.lanes.bursts[event];
       if (burst && burst[2] === number && event !== answered && !interruptions.includes(event)) this.tick(event, `burst ${burst[1]}`);
     }
-    for (const event of interruptions) if (this.isSeen(event)) this.cross(event, `cut at event ${event}`);
+    for (const event of interruptions) if (this.isSeen(event)) this.cross(event, `interrupted at event ${event}`);
     if (answered && this.isSeen(answered)) this.answer(call);
     if (this.isCrowded) return;
     const x = this.left(Math.max(invoked, this.view.first));
@@ -321,8 +321,8 @@ export function legendOf(part, step) {
   for (const [name, entry] of Object.entries(answers)) if (by.has(name)) entries.push(entry);
   if ([...by].some((each) => each.startsWith("at once"))) entries.push(["square", "once", "answered at once: a wrong operation"]);
   if ([...by].some((each) => each.startsWith("with gone"))) entries.push(["square", "gone", "gone: the part is given up"]);
-  if (Object.keys(part.lanes.bursts).length) entries.push(["tick", "tick-mark", "a burst that goes on"]);
-  if (part.failed.size) entries.push(["cross", "cross", "the driver fails; a call is cut"]);
+  if (Object.keys(part.lanes.bursts).length) entries.push(["tick", "tick-mark", "a burst that continues"]);
+  if (part.failed.size) entries.push(["cross", "cross", "the driver fails; a call is interrupted"]);
   for (const [letter, name] of Object.entries(part.letters.acts)) if (acts.has(letter)) entries.push(["letter", OUTWARD.includes(letter) ? "outward" : letter === "f" ? "failed-act" : "inward", name, letter]);
   const strikes = new Set(Object.values(part.lanes.faults).flat());
   for (const [letter, name] of Object.entries(part.letters.faults)) if (strikes.has(letter)) entries.push(["letter", "fault", name, letter]);

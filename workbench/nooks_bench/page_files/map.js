@@ -13,11 +13,11 @@ export class DrawnMap {
     this.rows = [];
     this.here = [0, 0];
     this.cellWords = element("p", { class: "cell-words", "aria-live": "polite" });
-    this.drawing = element("div", { class: "map-drawing", tabindex: 0, role: "application", "aria-label": "map: arrows go from cell to cell, Enter places the fault of the cell",
+    this.drawing = element("div", { class: "map-drawing", tabindex: 0, role: "application", "aria-label": "map: arrows go from cell to cell, Enter adds the fault of the cell",
       onkeydown: (press) => this.pressed(press), onclick: (click) => this.clicked(click), onfocus: () => this.showCell() });
     this.holder = element("section", { class: "map", hidden: true },
       element("h2", {}, "Map ", element("button", { type: "button", class: "close-map", onclick: () => this.clear() }, "close")),
-      element("p", { class: "none" }, "Each cell is the fault before that turn, and its colour what becomes of it. A click on a cell places its fault; so do the arrows and Enter."),
+      element("p", { class: "none" }, "Each cell is the fault before that instruction; its colour shows the outcome. A click on a cell, or Enter, adds its fault."),
       this.drawing, this.cellWords);
   }
 

@@ -12,11 +12,11 @@ const MOST_PRINTED = 400;
 
 const KEYS = [
   ["\u2190 \u2192", "one event back or on; with Shift ten"],
-  ["\u2191 \u2193", "one turn of the burst back or on; with Shift ten"],
+  ["\u2191 \u2193", "one instruction of the burst back or forward; with Shift ten"],
   ["Home End", "the beginning, the last event"],
   ["Space", "play, and stop"],
-  ["n, N", "the next, the last place where something went wrong"],
-  ["1 to 8", "a part by its place from 1"],
+  ["n, N", "the next, the last event at which something went wrong"],
+  ["1 to 8", "a part by its number, from 1"],
   ["+ -", "wider and narrower lanes"],
   ["?", "these keys"],
 ];
@@ -92,7 +92,7 @@ export class Page {
     const bar = element("div", { class: "bar event-bar" },
       button("|\u25c0", "the beginning (Home)", () => this.goEvent(0)), button("\u25c0 back", "one event back (arrow left)", () => this.goEvent(this.here.event - 1)),
       button("on \u25b6", "one event on (arrow right)", () => this.goEvent(this.here.event + 1)), button("\u25b6|", "the last event (End)", () => this.goEvent(this.part.events.length)),
-      this.play, this.next = button("next \u26a0", "the next place where something went wrong (n)", () => this.goWrong(1)), this.slider, this.where, this.link,
+      this.play, this.next = button("next \u26a0", "the next event at which something went wrong (n)", () => this.goWrong(1)), this.slider, this.where, this.link,
       button("keys ?", "the keys (?)", () => this.toggleKeys()));
     this.said = element("div", { class: "said", "aria-live": "polite" });
     this.state = element("div", { class: "state" });

@@ -18,21 +18,21 @@ const NO_SCENARIO = "There is no scenario (.json, .jsonc) in this folder: copy o
 /** What can be done, for anyone who sees the page for the first time. */
 const INTRODUCTION = [
   "A scenario opens as text, with the text of its drivers, and is run at once. Below the texts its run is gone through event by event.",
-  "Change a text, and run it again (r). Place a fault before a turn of a burst (f), and take it back (u).",
-  "Run it with a guard (g), draw what becomes of a fault at each turn of a burst (m), or list what all orders of the steps come to (x).",
+  "Change a text, and run it again (r). Add a fault before an instruction of a burst (f), and remove it (u).",
+  "Run it with a guard (g), draw the outcome of a fault at each instruction of a burst (m), or list what all orders of the steps come to (x).",
   "Files are written in this folder alone, when you save (Ctrl+S) or make one.",
 ];
 
 const BENCH_KEYS = [
   ["r", "run; Ctrl+Enter does so from a text"],
   ["g", "with a guard or without one, and run"],
-  ["f", "place the fault before the turn that is looked at"],
+  ["f", "add the fault before the instruction that is shown"],
   ["u", "undo the last fault or schedule"],
   ["m", "a map of the burst that is looked at"],
   ["x", "the outcomes of all orders"],
   ["e, Esc", "to the text; back from it; Esc also stops a run"],
   ["Ctrl+S", "save"],
-  ["F8", "to the place of a fault in a text"],
+  ["F8", "to the position of an error in a text"],
 ];
 
 function button(text, label, act, more = {}) {
@@ -78,7 +78,7 @@ class Bench {
     this.said = element("p", { class: "bench-said", role: "status", "aria-live": "assertive", onclick: () => this.editor.goFault() });
     const bar = element("div", { class: "bar bench-bar" },
       element("b", {}, "nooks-bench serve"), element("span", { class: "none folder", title: "the folder that is served" }, folder), this.files,
-      button("\u25b6 run (r)", "run what stands in the texts (r, or Ctrl+Enter)", () => this.run(), { class: "run-it" }),
+      button("\u25b6 run (r)", "run the texts as they are (r, or Ctrl+Enter)", () => this.run(), { class: "run-it" }),
       element("label", { class: "guard" }, this.guard, " with a guard (g)"), this.stopper,
       button("hide texts", "hide or show the texts and tools", (click) => this.toggleTexts(click.currentTarget)), this.said);
     const tools = element("div", { class: "tools" }, this.faultTools(), this.tryTools(), this.fileTools(), this.orders.holder);
@@ -90,13 +90,13 @@ class Bench {
   faultTools() {
     this.undoer = button("undo", "take the last fault or schedule back (u)", () => this.undo(), { disabled: true, class: "undo" });
     return element("div", { class: "tool" }, element("b", {}, "Fault"), ...this.fault.elements,
-      button("place (f)", "place it before the turn that is looked at (f)", () => this.addFaultAt(this.page.turnHere), { class: "place-here" }), this.undoer,
-      element("span", { class: "none" }, "or a click on 'fault' at a turn, or on a cell of a map"));
+      button("add (f)", "add it before the instruction that is shown (f)", () => this.addFaultAt(this.page.turnHere), { class: "place-here" }), this.undoer,
+      element("span", { class: "none" }, "or a click on 'fault' at an instruction, or on a cell of a map"));
   }
 
   tryTools() {
     return element("div", { class: "tool" }, element("b", {}, "Tries"),
-      button("map of this burst (m)", "what becomes of this fault at each turn of the burst that is looked at (m)", () => this.drawMap(), { class: "draw" }),
+      button("map of this burst (m)", "the outcome of this fault at each instruction of the burst that is shown (m)", () => this.drawMap(), { class: "draw" }),
       button("all orders (x)", "what comes of every order of the steps (x)", () => this.explore(), { class: "explore" }));
   }
 
@@ -144,7 +144,7 @@ class Bench {
   say(text, kind) {
     this.said.textContent = text;
     this.said.className = `bench-said ${kind}`;
-    this.said.title = kind === "refused" ? "a click, or F8, goes to the place" : "";
+    this.said.title = kind === "refused" ? "a click, or F8, goes to the position" : "";
   }
 
   /** Says what the server refused or ended, and marks the position. */
@@ -258,7 +258,7 @@ class Bench {
   /** Adds the fault of the form before an instruction of the selected burst. */
   addFaultAt(turn) {
     const burst = this.page.burstNumber;
-    if (!burst || !turn) return this.say("look at an event in which the driver works: a fault strikes in a burst, before a turn", "refused");
+    if (!burst || !turn) return this.say("go to an event in which the driver works: a fault strikes in a burst, before an instruction", "refused");
     const { several } = this.fault;
     if (several) return this.say(`a fault has one ${several}, a number; only a map takes several`, "refused");
     return this.addFault(this.page.here.part, this.fault.before(turn, burst));

@@ -17,8 +17,8 @@ use Rattle.asm_defs.specs.declared.assembler.Statement.TheVariants as statement
 use Rattle.asm_defs.specs.declared.assembler.TokenKind.TheVariants as kind
 use Rattle.asm_defs.specs.declared.assembler.Value.TheVariants as value
 
--- Names for pieces of the assembler's and the disassembler's definitions, by which their code's contracts and the laws
--- of both speak of them.
+-- Names for pieces of the assembler's and the disassembler's definitions. The contracts of their code and the laws of
+-- both use them.
 
 -- ---- bytes and tokens
 
@@ -30,7 +30,7 @@ is_line_feed b = b == 10
 abbrev pub is_before_comment : ℕ → Bool
 is_before_comment b = not (b == 59)
 
--- no token of the language
+-- a token that is not in the language
 abbrev pub is_bad : TokenKind → Bool
 is_bad kind.Bad = true
 is_bad _ = false
@@ -41,12 +41,12 @@ is_bad _ = false
 abbrev pub no_labels : Labels
 no_labels name = None
 
--- the place of a label that is defined
+-- the address of a label, if it is defined
 abbrev pub label_value : Option Label → Value
 label_value None = value.Missing
-label_value (Some label) = value.Known label.place
+label_value (Some label) = value.Known label.address
 
--- the value of a token of a kind: a number, or a name that is no register
+-- the value of a token of a kind: a number, or a name other than a register's
 abbrev pub value_by : TokenKind → Labels → List ℕ → Option Value
 value_by token_kind labels token = elim token_kind [
   | kind.Number number ↦ Some (value.Known number)
@@ -54,15 +54,15 @@ value_by token_kind labels token = elim token_kind [
   | _ ↦ None
 ]
 
--- for a form without the register
+-- the register of a form without one
 abbrev pub no_register : Option ℕ
 no_register = Some 0
 
--- for a form without the immediate
+-- the immediate of a form without one
 abbrev pub no_value : Option Value
 no_value = Some (value.Known 0)
 
--- a first token that is a name must be a mnemonic
+-- if the first token is a name, it must be a mnemonic
 abbrev pub named_statement : Labels → Section → Option Mnemonic → List (List ℕ) → Result Statement AsmKind
 named_statement labels section named rest = of_name named (λ mnemonic. instr_statement labels section mnemonic rest)
 
@@ -73,14 +73,14 @@ class_by token_kind named more = elim token_kind [
   | _ ↦ Err fault.WrongOperands
 ]
 
--- `.entry` by the place of its name
+-- `.entry` by the index of its name
 abbrev pub entry_by : Labels → TokenKind → Option ℕ → List (List ℕ) → Result Statement AsmKind
 entry_by labels token_kind named more = elim token_kind [
-  | kind.Name ↦ of_name named (λ place. entry_value labels place more)
+  | kind.Name ↦ of_name named (λ address. entry_value labels address more)
   | _ ↦ Err fault.WrongOperands
 ]
 
--- a statement, by what its first token is
+-- a statement, by the kind of its first token
 abbrev pub statement_by : TokenKind → Labels → Option Class → Section → List ℕ → List (List ℕ)
     → Result Statement AsmKind
 statement_by token_kind labels class section first rest = elim token_kind [
@@ -89,22 +89,22 @@ statement_by token_kind labels class section first rest = elim token_kind [
   | _ ↦ Err fault.WrongOperands
 ]
 
--- the smaller of a statement's fault and WrongOperands
+-- the smaller of a statement's error and WrongOperands
 abbrev pub at_most_wrong : Result Statement AsmKind → Result Statement AsmKind
 at_most_wrong (Ok says) = Err fault.WrongOperands
 at_most_wrong (Err kind) = Err kind
 
 -- ---- both passes
 
--- one line further
+-- the cursor one line further
 abbrev pub next_line : Cursor → Cursor
 next_line at = record at { line = at.line + 1 }
 
--- the first definition of the name stands on another line
+-- the first definition of the name is on another line
 abbrev pub is_other_line : Option Label → ℕ → Bool
 is_other_line label line = elim label [ None ↦ false | Some label ↦ not (label.line == line) ]
 
--- an entry of the class that has its value
+-- the class has this entry, and it is given
 abbrev pub is_given : Option (Option ℕ) → Bool
 is_given (Some (Some number)) = true
 is_given _ = false
@@ -119,7 +119,7 @@ with_class class draft = record draft { class = Some class; entries = replicate 
 abbrev pub instr_tokens : Fields → List (List ℕ)
 instr_tokens f = mnemonic_text f.mnemonic ∷ operand_tokens (form_of f.mnemonic) f
 
--- a text word: its instruction, or the number where it is none
+-- a text word: its instruction, or the number if it is no instruction
 abbrev pub decoded_tokens : Option Instr → ℕ → List (List ℕ)
 decoded_tokens decoded word = elim decoded [ Some instr ↦ instr_tokens (fields_of instr) | None ↦ word_tokens word ]
 
@@ -127,6 +127,6 @@ decoded_tokens decoded word = elim decoded [ Some instr ↦ instr_tokens (fields
 abbrev pub class_tokens : Class → List (List ℕ)
 class_tokens class = codes ".class" ∷ class_text class ∷ []
 
--- a token after another
+-- a token that follows another
 abbrev pub later_token : List ℕ → List ℕ
 later_token token = 32 ∷ token

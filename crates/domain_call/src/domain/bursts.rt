@@ -12,7 +12,7 @@ use nook_data::machine::{BurstEnd, Context};
 use nook_data::scenario::Fault;
 
 impl Domain {
-    /// One burst of a context that is Inside, up to its crossing, one burst more of its attempt. `faults` are those
+    /// Runs one burst of a context that is Inside, up to its crossing; it counts for the attempt. `faults` are those
     /// of this burst in rising order of `after`; `acts` is empty, with its full room. The context is at most 16, and
     /// its attempt has had fewer than 32 bursts. A free context does nothing. It takes no memory.
     #[tactic(auto, unfolding(part_defs::specs::Domain::domain_burst), using(machine_defs::proofs::BurstClasses::burst_keeps_class))]

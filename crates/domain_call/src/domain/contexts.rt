@@ -17,41 +17,41 @@ use nook_data::memory_map::{BUFFER_WORDS, stack_end};
 use param_wrappers::{Args, copy_in, copy_out};
 
 impl Domain {
-    /// A context goes Inside at the entry with this place in the class's order, for an operation: its words go into
+    /// A context goes Inside at the entry with this index in the class's order, for an operation: its words go into
     /// the context's buffer, which is lent. The context is at most 16 and has no buffer, and the operation has at
     /// most 128 words. It takes no memory.
     #[tactic(auto, unfolding(part_defs::specs::Domain::entered_domain), using(crate::proofs::Loans::lent_entered))]
-    pub fn enter(&mut self, context: u8, place: u32, op: &Op)
+    pub fn enter(&mut self, context: u8, index: u32, op: &Op)
         requires context { context < CONTEXTS }
         requires free { list_any (is_buffer_of context) self.old.state.entries ≡ false }
         requires few { IfSome (buffer_of op.now) (λ l. length l.words ≤ BUFFER_WORDS) }
-        ensures { self.new ≡ record self.old { state = entered_domain context place op.now self.old.state } }
+        ensures { self.new ≡ record self.old { state = entered_domain context index op.now self.old.state } }
     {
         let arguments = copy_in(&mut self.pages, &mut self.tracker, context, op);
-        let inside = self.at_entry(context, place, arguments);
+        let inside = self.at_entry(context, index, arguments);
         self.contexts[context as usize] = Some(inside);
     }
 
-    /// A context goes Inside at the entry with this place in the class's order, with no arguments and no buffer,
+    /// A context goes Inside at the entry with this index in the class's order, with no arguments and no buffer,
     /// for Init and for ReplayOpen. The context is at most 16. It takes no memory.
     #[tactic(auto, unfolding(part_defs::specs::Domain::plainly_entered))]
-    pub fn enter_plain(&mut self, context: u8, place: u32)
+    pub fn enter_plain(&mut self, context: u8, index: u32)
         requires { context < CONTEXTS }
-        ensures { self.new ≡ record self.old { state = plainly_entered context place self.old.state } }
+        ensures { self.new ≡ record self.old { state = plainly_entered context index self.old.state } }
     {
         let none = Args {
             r1: 0,
             r2: 0,
             r3: 0,
         };
-        let inside = self.at_entry(context, place, none);
+        let inside = self.at_entry(context, index, none);
         self.contexts[context as usize] = Some(inside);
     }
 
-    /// A context that stands at an entry: r1 to r3 have its arguments, r14 the end of the context's stack.
-    fn at_entry(&self, context: u8, place: u32, args: Args) -> Context
+    /// A context at an entry: r1 to r3 have its arguments, r14 the end of the context's stack.
+    fn at_entry(&self, context: u8, index: u32, args: Args) -> Context
         requires { context < CONTEXTS }
-        ensures { result ≡ entry_context (slice_index self.now.state.starts place) context (arguments args) }
+        ensures { result ≡ entry_context (slice_index self.now.state.starts index) context (arguments args) }
     {
         let mut registers = [0; 16];
         registers[1] = args.r1;
@@ -61,7 +61,7 @@ impl Domain {
         let counter = self
             .starts
             .as_slice()
-            .get(place as usize)
+            .get(index as usize)
             .copied()
             .unwrap_or(0);
         Context {
@@ -70,7 +70,7 @@ impl Domain {
         }
     }
 
-    /// Puts a word into r1 of a context that is Inside; of a free one it does nothing. The context is at most 16.
+    /// Puts a word into r1 of a context that is Inside; does nothing for a free one. The context is at most 16.
     #[tactic(auto, unfolding(part_defs::specs::Domain::result_set))]
     pub fn set_result(&mut self, context: u8, word: Word)
         requires { context < CONTEXTS }
@@ -81,7 +81,7 @@ impl Domain {
         }
     }
 
-    /// One context is free from now on, and its buffer is lent no more. The context is at most 16.
+    /// Frees one context and ends the loan of its buffer. The context is at most 16.
     #[tactic(auto, unfolding(part_defs::specs::Domain::left_domain), using(crate::proofs::Loans::lent_left))]
     pub fn leave(&mut self, context: u8)
         requires { context < CONTEXTS }
@@ -92,7 +92,7 @@ impl Domain {
         self.contexts[context as usize] = None;
     }
 
-    /// Leaves a context as `leave` does, and brings out the first `count` words of its buffer, at most 128, in the
+    /// Leaves a context as `leave` does, and returns the first `count` words of its buffer, at most 128, in the
     /// memory of `room`, which has room for them. The context is at most 16. It takes no memory.
     #[tactic(auto, unfolding(part_defs::specs::Domain::left_domain), using(crate::proofs::Loans::lent_left))]
     pub fn copy_out(&mut self, context: u8, count: u32, room: Room<Word>) -> Words

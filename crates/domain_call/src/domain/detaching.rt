@@ -1,4 +1,4 @@
-//! A domain taken apart.
+//! Taking a domain apart.
 
 ghost use Rattle.std.specs.Prelude.{◌≡◌};
 
@@ -6,8 +6,8 @@ use super::Domain;
 use crate::detached::Detached;
 
 impl Domain {
-    /// The pages, what the driver holds and the device, for a machine that is run turn by turn. The rest of the domain
-    /// is dropped. It takes no memory.
+    /// The pages, what the driver holds and the device, for a machine that runs one instruction at a time. The rest of
+    /// the domain is dropped. It takes no memory.
     pub fn detach(self) -> Detached
         ensures words { result.pages.words ≡ self.state.memory }
         ensures entries { result.tracker.entries ≡ self.state.entries }

@@ -1,4 +1,4 @@
-//! A domain held packed.
+//! Packed domains.
 
 ghost use Rattle.std.specs.Prelude.{◌≡◌, true, IfOk};
 
@@ -16,7 +16,7 @@ use object_tracker::Tracker;
 use std::alloc::Global;
 use std::marker::Model;
 
-/// A domain that is held and does nothing: its pages are packed. Contracts see what they see of a domain.
+/// A domain that does nothing and has its pages packed. Contracts see the same as for a domain.
 pub struct PackedDomain {
     class: Class,
     starts: Words,
@@ -27,9 +27,9 @@ pub struct PackedDomain {
 }
 
 impl Model for PackedDomain {
-    ghost use Rattle.domain_call.specs.Standing.{Standing, IsAgreed};
+    ghost use Rattle.domain_call.specs.DomainView.{DomainView, IsAgreed};
 
-    ghost Value = { Standing };
+    ghost Value = { DomainView };
 
     ghost view = { λ s. record {
       state = record {
@@ -47,7 +47,7 @@ impl Model for PackedDomain {
 }
 
 impl Drop for PackedDomain {
-    /// By hand, so that it is proved once, and not in each function that owns a packed domain.
+    /// Written by hand, so that it is proved once and not in each function that owns a packed domain.
     fn drop(self) {
         let PackedDomain {
             class: _,
@@ -61,7 +61,7 @@ impl Drop for PackedDomain {
 }
 
 impl Domain {
-    /// The domain packed, and the memory of its pages, for another domain. All but the pages is moved.
+    /// Packs the domain, and returns the memory of its pages for another domain. All but the pages is moved.
     pub fn into_packed(self, alloc: Global) -> Result<(PackedDomain, PageMap), NoMemory>
         ensures { IfOk result (λ made. made.0 ≡ self) }
     {
@@ -87,7 +87,7 @@ impl Domain {
 }
 
 impl PackedDomain {
-    /// An equal domain. Its pages use the memory of `over`.
+    /// Unpacks an equal domain. Its pages use the memory of `over`.
     pub fn unpacked(&self, alloc: Global, over: PageMap) -> Result<Domain, NoMemory>
         ensures { IfOk result (λ made. made ≡ self.now) }
     {
@@ -105,8 +105,8 @@ impl PackedDomain {
         })
     }
 
-    /// Whether the other domain is the same. One that is may be denied, but not one that was made by the same writes since
-    /// the same load.
+    /// Whether the other domain is the same. It may return false for an equal domain, but not for one that was made by
+    /// the same writes since the same load.
     pub fn is_same(&self, other: &PackedDomain) -> bool
         ensures { result ≡ true → self.now ≡ other.now }
     {
@@ -118,8 +118,8 @@ impl PackedDomain {
             && self.pages.is_same(&other.pages)
     }
 
-    /// A digest, and more: the contexts that are Inside, and the pages of the driver that have had a word written since
-    /// the last load. The same domains give the same number.
+    /// Extends a digest by the contexts that are Inside, and by the pages of the driver in which a word was written
+    /// since the last load. Equal domains give the same number.
     pub fn digest(&self, digest: u64) -> u64 {
         let mut digest = digest;
         for context in 0..self.contexts.len() {
@@ -138,7 +138,7 @@ impl PackedDomain {
     }
 }
 
-/// A digest, and a context more.
+/// Extends a digest by a context.
 fn mixed_context(digest: u64, context: &Context) -> u64 {
     let digest = mixed(digest, u64::from(context.cpu.counter));
     let digest = mixed_words(digest, &context.cpu.registers);

@@ -7,7 +7,7 @@ ghost use Rattle.part_defs.specs.Domain.{collected_domain, loaded_domain, stoppe
 ghost use Rattle.machine_defs.specs.Entries.{released};
 ghost use Rattle.machine_defs.specs.Views.PageMap.{none_lent};
 ghost use Rattle.part_defs.specs.Stages.{with_reset};
-ghost use Rattle.domain_call.specs.Standing.{with_device};
+ghost use Rattle.domain_call.specs.DomainView.{with_device};
 
 use super::Domain;
 use domain_pages::PageMap;
@@ -20,7 +20,7 @@ use nook_data::memory_map::{DATA_WORDS, TEXT_WORDS};
 use nook_data::scenario::Image;
 
 impl Domain {
-    /// Every context is free from now on, and the driver is not registered.
+    /// Frees every context and makes the driver unregistered.
     #[tactic(auto, unfolding(part_defs::specs::Domain::stopped_domain))]
     pub fn unwind(&mut self)
         ensures { self.new ≡ record self.old { state = stopped_domain self.old.state } }
@@ -29,8 +29,8 @@ impl Domain {
         self.contexts = [None; CONTEXTS];
     }
 
-    /// Everything that the driver holds but its registration ends; what ended, in order. Where memory is wanting the
-    /// domain is as before.
+    /// Ends everything that the driver holds except its registration; returns what ended, in order. If memory runs out,
+    /// the domain is unchanged.
     #[tactic(auto, unfolding(part_defs::specs::Domain::collected_domain), using(crate::proofs::Loans::lent_collected))]
     pub fn collect(&mut self) -> Result<Released, NoMemory>
         ensures released { IfOk result (λ ended. ended ≡ released self.old.state.entries) }
@@ -42,15 +42,15 @@ impl Domain {
         Ok(ended)
     }
 
-    /// The device is reset: its registers take the class's defaults; a disk's medium stays.
+    /// Resets the device: its registers get the class's defaults; a disk's medium stays.
     pub fn reset(&mut self)
         ensures { self.new ≡ record self.old { state = with_reset (defaults_of self.old.class) self.old.state } }
     {
         self.device.reset();
     }
 
-    /// The image is put in place: its text, its initial words, and zeros up to the kernel's objects. It has at most
-    /// 2,048 words of each. Where memory is wanting the domain is as before.
+    /// Loads the image: its text, its initial words, and zeros up to the kernel's objects. It has at most
+    /// 2,048 words of each. If memory runs out, the domain is unchanged.
     #[tactic(auto, unfolding(part_defs::specs::Domain::loaded_domain))]
     pub fn load(&mut self, image: &Image) -> Result<(), NoMemory>
         requires text { length image.now.text ≤ TEXT_WORDS }
@@ -61,7 +61,7 @@ impl Domain {
         self.pages.load(image)
     }
 
-    /// A frame of 1 to 64 words arrives at a net device; false, with the frame dropped, exactly where the ring
+    /// A frame of 1 to 64 words arrives at a net device; false, with the frame dropped, exactly if the ring
     /// holds 16. It takes no memory.
     pub fn arrive(&mut self, frame: Words) -> bool
         requires net { self.old.class ≡ Class.Net }
@@ -74,7 +74,7 @@ impl Domain {
     }
 }
 
-/// No context's buffer may be written from now on.
+/// Ends every right to write a context's buffer.
 fn revoke_all(pages: &mut PageMap)
     requires { length pages.old.lent ≡ CONTEXTS }
     ensures { pages.new ≡ record pages.old { lent = none_lent } }

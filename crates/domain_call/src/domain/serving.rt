@@ -5,7 +5,7 @@ ghost use Rattle.part_defs.specs.Crossing.{without_shadow};
 ghost use Rattle.part_defs.specs.Domain.{first_argument, noted, result_set, second_argument};
 ghost use Rattle.machine_defs.specs.Services.{checked};
 ghost use Rattle.param_wrappers.specs.Crossing.{can_serve};
-ghost use Rattle.domain_call.specs.Standing.{served_in, with_served};
+ghost use Rattle.domain_call.specs.DomainView.{served_in, with_served};
 
 use super::Domain;
 use kernel_services::{RxQueue, Served, serve};
@@ -17,8 +17,8 @@ use nook_data::memory_map::{OBJECT_WORDS, object_start};
 use param_wrappers::check_service;
 
 impl Domain {
-    /// The service of a context's kernel call by its number, its arguments being r1 and r2 of the context. The error
-    /// names the smallest argument that fails; 0 is the service itself. The context is at most 16.
+    /// The service of a context's kernel call by its number, with r1 and r2 of the context as arguments. The error
+    /// names the first argument that fails; 0 is the service itself. The context is at most 16.
     pub fn check(&self, context: u8, number: u32) -> Result<Service, BadParam>
         requires { context < CONTEXTS }
         ensures checked { result ≡ checked number (first_argument context self.now.state) (second_argument context self.now.state) self.now.class self.now.state.entries }
@@ -48,12 +48,12 @@ impl Domain {
         ensures answer { result.answer ≡ (served_in self.old service queue.old).answer }
         ensures moved { result.moved ≡ (served_in self.old service queue.old).moved }
     {
-        let told = self.done(service, queue, moved, frame);
-        self.set_result(context, told.answer);
-        told
+        let reported = self.done(service, queue, moved, frame);
+        self.set_result(context, reported.answer);
+        reported
     }
 
-    /// Does a service.
+    /// Performs a service.
     #[tactic(auto, using(crate::proofs::Loans::lent_served))]
     fn done(
         &mut self,
@@ -80,16 +80,16 @@ impl Domain {
         )
     }
 
-    /// The kernel writes a word of object 0, whose places are 0 to 63.
+    /// The kernel writes a word of object 0, at an index from 0 to 63.
     #[tactic(auto, unfolding(part_defs::specs::Domain::noted))]
-    pub fn note(&mut self, place: u32, word: Word)
-        requires { place < OBJECT_WORDS }
-        ensures { self.new ≡ record self.old { state = noted place word self.old.state } }
+    pub fn note(&mut self, index: u32, word: Word)
+        requires { index < OBJECT_WORDS }
+        ensures { self.new ≡ record self.old { state = noted index word self.old.state } }
     {
-        self.pages.kernel_write(object_start(0) + place, word);
+        self.pages.kernel_write(object_start(0) + index, word);
     }
 
-    /// The driver failed: the number of failures stands in object 0, and the shadow's context is free.
+    /// The driver failed: object 0 records the number of failures, and the shadow's context is freed.
     pub fn fail(&mut self, failures: u32)
         ensures { self.new ≡ record self.old { state = noted 4 failures (without_shadow self.old.state) } }
     {

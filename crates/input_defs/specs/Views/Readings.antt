@@ -20,17 +20,17 @@ use Rattle.nook_data.specs.Types.{ThreadSpec}
 use Rattle.asm_defs.specs.declared.keys.Key.TheVariants as key
 use Rattle.input_defs.specs.declared.input.PathStep.TheVariants as step
 
--- Names for pieces of what is read, by which the readers' contracts and the laws of reading speak of them.
+-- Names for pieces of the readings. The readers' contracts and the laws of reading use them.
 
 -- the bytes are the text of one of these keys
 abbrev pub is_key : List Key → List ℕ → Bool
 is_key known name = list_any (λ key. bytes_eq name (key_text key)) known
 
--- a number from low to high at a key, or the default where it is left out
+-- a number from low to high at a key, or the default if the key is absent
 abbrev pub number_or : Key → ℕ → ℕ → ℕ → Data → Result ℕ Refusal
 number_or key low high default d = optional key (whole_number low high) default d
 
--- a hexadecimal digit of either case
+-- a hexadecimal digit in either case
 abbrev pub is_hex_digit : ℕ → Bool
 is_hex_digit b = is_digit b 16
 
@@ -42,7 +42,7 @@ text_word earlier d = text_of d >>= hex_word
 abbrev pub asm_of : Data → Result Image Refusal
 asm_of d = text_of d >>= λ text. or_bad_asm (assembled text)
 
--- the image of a driver, by its key `asm` where it has it, else by its key `image`
+-- the image of a driver, from its key `asm` if it has that key, else from its key `image`
 abbrev pub driver_image : Option Data → Data → Result Image Refusal
 driver_image found d =
     elim found [ Some text ↦ under (step.At key.Asm) (asm_of text) | None ↦ required key.Image image_of d ]

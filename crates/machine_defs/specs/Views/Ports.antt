@@ -6,19 +6,19 @@ use Rattle.nook_data.specs.Types.{Act, Class, DeviceKind, DeviceState}
 use Rattle.nook_data.specs.declared.classes.Class.TheVariants as class
 use Rattle.nook_data.specs.declared.devices.DeviceKind.TheVariants as kind
 
--- How code that reaches a device's ports relates to the definition of the ports.
+-- How code that accesses a device's ports relates to the definition of the ports.
 
--- what an IN gave, where it gave this word and left this device
+-- the result of an IN that returned this word, if any, and left this device
 abbrev pub given_by : Option ℕ → DeviceState → Option Given
 given_by None device = None
 given_by (Some word) device = Some (record { word = word; device = device })
 
--- the device after an IN, which is as before where there is no such port
+-- the device after an IN; it is unchanged if there is no such port
 abbrev pub device_given : Option Given → DeviceState → DeviceState
 device_given None device = device
 device_given (Some given) device = given.device
 
--- the device after an OUT, which is as before where there is no such port
+-- the device after an OUT; it is unchanged if there is no such port
 abbrev pub device_after : Option Taken → DeviceState → DeviceState
 device_after None device = device
 device_after (Some taken) device = taken.device
@@ -28,7 +28,7 @@ abbrev pub act_of : Option Taken → Option Act
 act_of None = None
 act_of (Some taken) = taken.act
 
--- how an OUT relates what it found to what it left: whether there is such a port, the acts, the device
+-- how an OUT relates the state before it to the state after it: whether there is such a port, the acts, the device
 pub record IsTaken (taken : Option Taken) (allowed : Bool) (before after : List Act)
     (old new : DeviceState) : Type 0 where
   pub port : allowed ≡ is_some taken
@@ -45,7 +45,7 @@ class_of_kind kind.Speaker = class.Sound
 abbrev pub class_of : DeviceState → Class
 class_of d = class_of_kind d.kind
 
--- what the registers of a device hold after a reset
+-- the values of a device's registers after a reset
 abbrev pub defaults_for : DeviceState → List ℕ
 defaults_for d = defaults_of (class_of d)
 

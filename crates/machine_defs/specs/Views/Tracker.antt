@@ -1,7 +1,7 @@
 use Rattle.std.specs.Prelude.{ℕ, List}
 use Rattle.nook_data.specs.Types.{Entry}
 
--- what a tracker is: where the heap begins, and what the driver holds, in Collect's order
+-- a tracker: where the heap begins, and what the driver holds, in Collect's order
 pub record Tracker : Type 0 where
   pub heap_start : ℕ
   pub entries : List Entry

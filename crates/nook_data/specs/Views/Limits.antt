@@ -4,17 +4,17 @@ use Rattle.nook_data.specs.declared.memory_map.TheConstants.{TEXT_WORDS}
 use Rattle.nook_data.specs.Types.{Op}
 use Rattle.nook_data.specs.Valid.{AreWords, IsValidOp}
 
--- Names for limits of single things, by which the laws of what is read and written speak of them.
+-- Names for the limits of single things, for laws about reading and writing.
 
--- a place in the text
-abbrev pub IsTextPlace : ℕ → Type 0
-IsTextPlace place = place ≤ TEXT_WORDS - 1
+-- an index into the text
+abbrev pub IsTextAddress : ℕ → Type 0
+IsTextAddress address = address ≤ TEXT_WORDS - 1
 
 -- 1 to 64 words
 abbrev pub IsValidFrame : List ℕ → Type 0
 IsValidFrame frame = (1 ≤ length frame) × AreWords MOST_FRAME_WORDS frame
 
--- a script's step, on one of so many parts
+-- a script's step, on one of this many parts
 abbrev pub IsValidStep : ℕ → ℕ × Op → Type 0
 IsValidStep parts step = (step.0 < parts) × IsValidOp step.1
 

@@ -1,9 +1,9 @@
--- What a list with a spare is to contracts, and the words of what is copied into a room.
+-- How contracts see a list with spare room, and the words that are copied into a room.
 use Rattle.std.specs.Prelude.{ℕ, List, []}
 use Rattle.nook_data.specs.Types.{Answer}
 use Rattle.nook_data.specs.declared.calls.Answer.TheVariants.{Blocks, Frame}
 
--- a list, and for how many more items there is room
+-- a list, and the number of further items that it has room for
 pub record Kept (T : Type 0) : Type 0 where
   pub list : List T
   pub spare : ℕ

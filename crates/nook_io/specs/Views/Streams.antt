@@ -1,10 +1,10 @@
--- Sources and sinks in memory, whose faults are listed.
+-- Sources and sinks in memory that fail at listed calls.
 use Rattle.std.specs.Prelude.{◌≡◌, ℕ, ◌+◌, ◌-◌, ◌^◌, ◌==◌, ◌||◌, min, nat_le, Bool, true, false, List, length, Result}
 use Rattle.std.specs.Prelude.{Ok, IsErr}
 use Rattle.std.specs.List.{list_any}
 
--- a source: the bytes left, how many one read gives at most, the numbers of the calls that fail, its calls and faults
--- so far
+-- a source: the bytes left, the most bytes that one read returns, the numbers of the calls that fail, and how many
+-- calls and I/O errors there were so far
 pub record ListedSource : Type 0 where
   pub left : List ℕ
   pub per_read : ℕ
@@ -12,8 +12,8 @@ pub record ListedSource : Type 0 where
   pub calls : ℕ
   pub faults : ℕ
 
--- a sink: the bytes that it holds, how many fit, the numbers of the calls that fail, whether it then claims to take
--- nothing, its calls and faults so far
+-- a sink: its bytes, how many fit, the numbers of the calls that fail, whether a failing call returns `Ok(0)`, and how
+-- many calls and I/O errors there were so far
 pub record ListedSink : Type 0 where
   pub bytes : List ℕ
   pub room : ℕ
@@ -22,7 +22,7 @@ pub record ListedSink : Type 0 where
   pub calls : ℕ
   pub faults : ℕ
 
--- one more, up to the end of the counter
+-- one more, up to the greatest number of the counter
 abbrev pub one_more : ℕ → ℕ
 one_more n = min (n + 1) (2 ^ 64 - 1)
 
@@ -34,7 +34,7 @@ is_listed failing call = list_any (λ listed. listed == call) failing
 abbrev pub read_fails : ListedSource → Bool
 read_fails s = is_listed s.failing (one_more s.calls)
 
--- how many bytes the next read into a buffer gives, where it does not fail
+-- how many bytes the next read into a buffer returns if it does not fail
 abbrev pub given : ListedSource → List ℕ → ℕ
 given s buf = min (min (length s.left) s.per_read) (length buf)
 
@@ -42,11 +42,11 @@ given s buf = min (min (length s.left) s.per_read) (length buf)
 abbrev pub write_fails : ListedSink → Bool
 write_fails s = nat_le s.room (length s.bytes) || is_listed s.failing (one_more s.calls)
 
--- how many bytes of a piece the next write takes, where it does not fail
+-- how many bytes of a piece the next write takes if it does not fail
 abbrev pub bytes_taken : ListedSink → List ℕ → ℕ
 bytes_taken s piece = min (length piece) (s.room - length s.bytes)
 
--- a write failed: it claims to have taken nothing, or says so
+-- a write failed: it returns `Ok(0)`, or an error
 abbrev pub IsRefusal : {E : Type 0} → Bool → Result ℕ E → Type 0
 IsRefusal true r = r ≡ Ok 0
 IsRefusal false r = IsErr r

@@ -1,4 +1,4 @@
-//! A part held packed.
+//! Packed parts.
 
 ghost use Rattle.std.specs.Prelude.{◌≡◌, true, IfOk};
 ghost use Rattle.machine_defs.specs.Devices.{medium_of};
@@ -17,7 +17,7 @@ use nook_data::scenario::PartSpec;
 use std::alloc::Global;
 use std::marker::Model;
 
-/// A part that is held and takes no step, in little memory. Contracts see what they see of a part.
+/// A part in little memory that takes no step. Contracts see the same as for a part.
 pub struct PackedPart {
     state: Box<PackedState>,
     script: FaultScript,
@@ -36,7 +36,7 @@ impl Model for PackedPart {
 }
 
 impl Drop for PackedPart {
-    /// By hand, so that it is proved once, and not in each function that owns a packed part.
+    /// Written by hand, so that it is proved once and not in each function that owns a packed part.
     fn drop(self) {
         let PackedPart {
             state: _,
@@ -47,7 +47,7 @@ impl Drop for PackedPart {
 }
 
 impl Part {
-    /// The part packed. All but the pages is moved; the memory for acts, crossings and pages goes to `left`.
+    /// Packs the part. All but the pages is moved; the memory for acts, crossings and pages goes to `left`.
     pub fn into_packed(self, alloc: Global, left: &mut LeftRooms) -> Result<PackedPart, NoMemory>
         ensures { IfOk result (λ made. made ≡ self) }
     {
@@ -66,7 +66,7 @@ impl Part {
 }
 
 impl PackedPart {
-    /// An equal part, with memory for acts, crossings and pages from `left`.
+    /// Unpacks an equal part, with memory for acts, crossings and pages from `left`.
     pub fn unpacked(&self, alloc: Global, left: &mut LeftRooms) -> Result<Part, NoMemory>
         ensures { IfOk result (λ made. made ≡ self.now) }
     {
@@ -80,19 +80,19 @@ impl PackedPart {
         })
     }
 
-    /// Whether the other part's state is the same; journals are not compared. One that is may be denied.
+    /// Whether the other part's state is the same; journals are not compared. It may return false for an equal state.
     pub fn is_same_state(&self, other: &PackedPart) -> bool
         ensures { result ≡ true → self.now.state ≡ other.now.state }
     {
         self.state.is_same(&other.state)
     }
 
-    /// A digest, and the part's state more. Parts whose states are the same give the same number.
+    /// Extends a digest by the part's state. Parts whose states are equal give the same number.
     pub fn digest(&self, digest: u64) -> u64 {
         self.state.digest(digest)
     }
 
-    /// The events so far. They are a run of the part, which is as they leave it.
+    /// The events so far. They are a run of the part, which is in the state that they lead to.
     pub fn journal(&self) -> &Journal
         ensures journal { result.now.list ≡ self.now.journal }
         ensures run { IsRun self.now.state.spec result.now.list }
@@ -109,7 +109,7 @@ impl PackedPart {
         &self.state.spec
     }
 
-    /// The blocks of the disk; none where the part has another device.
+    /// The blocks of the disk; none if the part has another device.
     pub fn medium(&self) -> &[[Word; BLOCK_WORDS]]
         ensures { result.now ≡ medium_of self.now.state.domain.device }
     {

@@ -1,4 +1,4 @@
-//! What a packed part is beside its journal.
+//! The state of a packed part, without its journal.
 
 ghost use Rattle.std.specs.Prelude.{◌≡◌, true, IfOk};
 
@@ -17,7 +17,7 @@ use nook_data::steps::Mode;
 use std::alloc::Global;
 use std::marker::Model;
 
-/// A part without its journal that is held and takes no step: its domain is packed, and it has no memory for acts and
+/// A part without its journal that takes no step: its domain is packed, and it has no memory for acts and
 /// crossings. Contracts see the definition's part.
 pub struct PackedState {
     pub spec: PartSpec,
@@ -52,7 +52,7 @@ impl Model for PackedState {
 }
 
 impl Drop for PackedState {
-    /// By hand, so that it is proved once, and not in each function that owns a packed state.
+    /// Written by hand, so that it is proved once and not in each function that owns a packed state.
     fn drop(self) {
         let PackedState {
             spec: _,
@@ -68,7 +68,7 @@ impl Drop for PackedState {
 }
 
 impl State {
-    /// The state packed. All but the pages is moved; the memory for acts, crossings and pages goes to `left`.
+    /// Packs the state. All but the pages is moved; the memory for acts, crossings and pages goes to `left`.
     pub fn into_packed(self, alloc: Global, left: &mut LeftRooms) -> Result<PackedState, NoMemory>
         ensures { IfOk result (λ made. made ≡ self) }
     {
@@ -103,7 +103,7 @@ impl State {
 }
 
 impl PackedState {
-    /// An equal state, with memory for acts, crossings and pages from `left`.
+    /// Unpacks an equal state, with memory for acts, crossings and pages from `left`.
     pub fn unpacked(&self, alloc: Global, left: &mut LeftRooms) -> Result<Box<State>, NoMemory>
         ensures { IfOk result (λ made. made.value ≡ self.now) }
     {
@@ -128,7 +128,7 @@ impl PackedState {
         Ok(Box::new(alloc, state)?)
     }
 
-    /// Whether the other state is the same. One that is may be denied.
+    /// Whether the other state is the same. It may return false for an equal state.
     pub fn is_same(&self, other: &PackedState) -> bool
         ensures { result ≡ true → self.now ≡ other.now }
     {
@@ -142,7 +142,7 @@ impl PackedState {
             && self.spec.is_same(&other.spec)
     }
 
-    /// A digest, and the state more: its counts, its open calls and its domain.
+    /// Extends a digest by the state: its counts, its open calls and its domain.
     pub fn digest(&self, digest: u64) -> u64 {
         let calls = self.log.pending();
         let digest = mixed_words(digest, &[self.failures, self.bursts, self.arrived]);
@@ -151,7 +151,7 @@ impl PackedState {
     }
 }
 
-/// A digest, and open calls more: of each its number, whether it is Inside, and its attempts.
+/// Extends a digest by open calls: for each its number, whether it is Inside, and its attempts.
 fn mixed_calls(digest: u64, calls: &[CallEntry]) -> u64 {
     let mut digest = digest;
     for entry in calls {

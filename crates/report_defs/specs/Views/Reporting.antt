@@ -6,10 +6,10 @@ use Rattle.nook_data.specs.Types.{Act, Answer, Entry}
 use Rattle.nook_data.specs.Types.{Event}
 use Rattle.nook_data.specs.declared.steps.Event.TheVariants as event
 
--- Names for pieces of a report's lines, by which the contracts of the code that writes them and the laws of reports
--- speak of them.
+-- Names for pieces of a report's lines, for the contracts of the code that writes them and the laws of
+-- reports.
 
--- each word after a comma
+-- the words, each after a comma
 abbrev pub comma_words : List ℕ → List ℕ
 comma_words words = flat_map (with_number (codes ",")) words
 
@@ -17,11 +17,11 @@ comma_words words = flat_map (with_number (codes ",")) words
 abbrev pub words_text : List ℕ → List ℕ
 words_text words = codes "[" ++ (inner_words words ++ codes "]")
 
--- a command on a block failed
+-- the failed command on a block
 abbrev pub failed_text : Bool → List ℕ
 failed_text store = if store then codes "failed store " else codes "failed load "
 
--- words that a kernel call moved, where there are some
+-- the words that a kernel call moved, if there are any
 abbrev pub moved_text : List ℕ → List ℕ
 moved_text [] = []
 moved_text (word ∷ words) = with_list (codes " ") (word ∷ words)
@@ -47,17 +47,17 @@ abbrev pub acts_of_event : Event → List Act
 acts_of_event (event.Burst context call burst count end acts a failure) = acts
 acts_of_event e = []
 
--- whether a listener was kept
+-- whether a listener is still attached
 abbrev pub tap_text : Bool → List ℕ
 tap_text kept = if kept then codes " kept" else codes " dropped"
 
--- a kernel object, where it differs from what it held at first
+-- a kernel object, if it differs from its initial words
 abbrev pub object_line : ℕ → List ℕ → List ℕ
 object_line object words =
     if bytes_eq words (opening_object object) then []
     else with_number (codes "object ") object ++ (with_list (codes " ") words ++ line_feed)
 
--- a block, where it has another word than 0
+-- a block, if it has a word other than 0
 abbrev pub block_line : ℕ → List ℕ → List ℕ
 block_line block words =
     if bytes_eq words (replicate 16 0) then []
@@ -71,7 +71,7 @@ config_line config = codes "config" ++ (flat_map spaced config ++ line_feed)
 abbrev pub failures_line : ℕ → List ℕ
 failures_line failures = with_number (codes "failures ") failures ++ line_feed
 
--- a listener's total, and whether it was kept
+-- a listener's total, and whether it is still attached
 abbrev pub tap_line : ℕ → ℕ × Bool → List ℕ
-tap_line place t =
-    with_number (codes "tap ") place ++ (with_number (codes " total ") t.0 ++ (tap_text t.1 ++ line_feed))
+tap_line number t =
+    with_number (codes "tap ") number ++ (with_number (codes " total ") t.0 ++ (tap_text t.1 ++ line_feed))

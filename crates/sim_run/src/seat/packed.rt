@@ -1,9 +1,9 @@
-//! Seats that are held packed.
+//! Packed seats.
 
 ghost use Rattle.std.specs.Prelude.{◌≡◌, true, IfOk};
 ghost use Rattle.sim_run.specs.Branching.{seat_now};
 
-use super::Seat;
+use super::SimulatedPart;
 use nook_data::digest::mixed;
 use nook_data::lists::Words;
 use nook_data::memory::NoMemory;
@@ -12,7 +12,7 @@ use part_core::{LeftRooms, PackedPart};
 use std::alloc::Global;
 use std::marker::Model;
 
-/// A part that is held packed, the frames that have not arrived, and whether its actors have a step.
+/// A packed part, the frames that have not arrived, and whether its actors have a step.
 #[derive(Drop)]
 pub struct PackedSeat<'a> {
     part: PackedPart,
@@ -33,8 +33,8 @@ impl<'a> Model for PackedSeat<'a> {
     ghost invariant = { λ s. (s.has_recovery ≡ is_some (next_recovery s.part.state)) × (s.has_arrival ≡ is_some (arrival s.part s.coming.now)) };
 }
 
-impl<'a> Seat<'a> {
-    /// The seat, to be held packed. The memory that it needs no more is left.
+impl<'a> SimulatedPart<'a> {
+    /// Packs the seat, and leaves the memory that it no longer needs in `left`.
     pub fn into_packed(
         self,
         alloc: Global,
@@ -53,12 +53,16 @@ impl<'a> Seat<'a> {
 }
 
 impl<'a> PackedSeat<'a> {
-    /// The seat, which takes up memory that is left.
-    pub fn unpacked(&self, alloc: Global, left: &mut LeftRooms) -> Result<Seat<'a>, NoMemory>
+    /// Unpacks the seat, and reuses memory from `left`.
+    pub fn unpacked(
+        &self,
+        alloc: Global,
+        left: &mut LeftRooms,
+    ) -> Result<SimulatedPart<'a>, NoMemory>
         ensures { IfOk result (λ made. made ≡ self.now) }
     {
         let part = self.part.unpacked(alloc, left)?;
-        Ok(Seat {
+        Ok(SimulatedPart {
             part,
             coming: self.coming,
             has_recovery: self.has_recovery,
@@ -66,14 +70,14 @@ impl<'a> PackedSeat<'a> {
         })
     }
 
-    /// Whether the other part is in the same state, with the same frames to come. One that is may be denied.
+    /// Whether the other part is in the same state, with the same frames to come. The answer may be no even if it is.
     pub fn is_alike(&self, other: &PackedSeat) -> bool
         ensures { result ≡ true → seat_now self.now ≡ seat_now other.now }
     {
         are_same(self.coming, other.coming) && self.part.is_same_state(&other.part)
     }
 
-    /// A digest, and the part's state and the number of frames to come with it.
+    /// Mixes the part's state and the number of frames to come into a digest.
     pub fn digest(&self, digest: u64) -> u64 {
         self.part.digest(mixed(digest, self.coming.len() as u64))
     }

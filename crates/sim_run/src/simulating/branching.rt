@@ -1,10 +1,10 @@
-//! A simulation that branches: every step that may be next, and what it has come to.
+//! A simulation that branches: every possible next step, and the current state.
 
 ghost use Rattle.std.specs.Prelude.{◌≡◌, ◌<◌, ◌≤◌, Some, IfOk, length, map, slice_get};
 ghost use Rattle.run_defs.specs.Schedules.{round};
 ghost use Rattle.run_defs.specs.Simulation.{answer_table, answers_of_thread, choices_of};
 ghost use Rattle.sim_run.specs.Actors.{actors_in};
-ghost use Rattle.sim_run.specs.Advanced.{standing};
+ghost use Rattle.sim_run.specs.Advanced.{state_at};
 ghost use Rattle.sim_run.specs.Branching.{run_of};
 ghost use Rattle.sim_run.specs.Ends.{ends_of};
 ghost use Rattle.sim_run.specs.Reached.{IsOpenChoice};
@@ -14,16 +14,16 @@ use super::{Simulating, take_ends};
 use crate::actors::{able_threads, choice_of, list_ready};
 use crate::chosen::Chosen;
 use crate::script::Script;
-use crate::seat::Seat;
+use crate::seat::SimulatedPart;
 use nook_data::calls::AnswerTable;
 use nook_data::lists::{Items, TryCopy, Words};
 use nook_data::memory::NoMemory;
 use part_core::Part;
-use report_text::PartEnds;
+use run_results::PartEnds;
 use std::alloc::Global;
 
 impl<'a> Simulating<'a> {
-    /// The numbers of the actors that have a step, in rising order.
+    /// The numbers of the actors that have a step, in ascending order.
     pub fn actors(&self) -> Result<Words, NoMemory>
         ensures { IfOk result (λ actors. actors ≡ actors_in self.now.parts self.now.threads) }
     {
@@ -38,9 +38,11 @@ impl<'a> Simulating<'a> {
     /// The step of the actor with an index among those that have one.
     #[tactic(auto, using(crate::proofs::Branching::index_within))]
     pub fn choice(&self, index: usize) -> Result<Chosen, NoMemory>
-        requires { index < length (choices_of (standing (round 0) self.now.parts self.now.threads)) }
+        requires { index < length
+            (choices_of (state_at (round 0) self.now.parts self.now.threads)) }
         ensures at { IfOk result (λ chosen.
-            slice_get (choices_of (standing (round 0) self.now.parts self.now.threads)) index ≡ Some chosen) }
+            slice_get (choices_of (state_at (round 0) self.now.parts self.now.threads)) index
+            ≡ Some chosen) }
         ensures open { IfOk result (λ chosen. IsOpenChoice self.now.parts chosen) }
     {
         let ready = ready_actors(self.alloc, &self.threads, &self.seats)?;
@@ -63,7 +65,7 @@ impl<'a> Simulating<'a> {
         self.seats[number].part()
     }
 
-    /// What each part ends in, as it stands now.
+    /// The final state of each part, if the run ends now.
     pub fn ends(&self) -> Result<PartEnds, NoMemory>
         ensures { IfOk result (λ ends. ends ≡ ends_of self.now.parts) }
     {
@@ -78,8 +80,12 @@ impl<'a> Simulating<'a> {
     }
 }
 
-/// The numbers of the actors that have a step, in rising order.
-fn ready_actors(alloc: Global, threads: &[Script], seats: &[Seat]) -> Result<Vec<u16>, NoMemory>
+/// The numbers of the actors that have a step, in ascending order.
+fn ready_actors(
+    alloc: Global,
+    threads: &[Script],
+    seats: &[SimulatedPart],
+) -> Result<Vec<u16>, NoMemory>
     requires threads { length threads.now ≤ MOST_THREADS }
     requires seats { length seats.now ≤ MOST_PARTS }
     ensures { IfOk result (λ ready. ready.items ≡ actors_in seats.now threads.now) }
@@ -90,20 +96,20 @@ fn ready_actors(alloc: Global, threads: &[Script], seats: &[Seat]) -> Result<Vec
     Ok(ready)
 }
 
-/// The step of the actor with an index among those that have one, which are given.
+/// The step of the actor with an index in the given list of those that have one.
 fn choice_among(
     alloc: Global,
     ready: &[u16],
     index: usize,
     threads: &[Script],
-    seats: &[Seat],
+    seats: &[SimulatedPart],
 ) -> Result<Chosen, NoMemory>
     requires threads { length threads.now ≤ MOST_THREADS }
     requires ready { ready.now ≡ actors_in seats.now threads.now }
-    requires index { index < length (choices_of (standing (round 0) seats.now threads.now)) }
+    requires index { index < length (choices_of (state_at (round 0) seats.now threads.now)) }
     requires within { index < length ready.now }
     ensures at { IfOk result (λ chosen.
-        slice_get (choices_of (standing (round 0) seats.now threads.now)) index ≡ Some chosen) }
+        slice_get (choices_of (state_at (round 0) seats.now threads.now)) index ≡ Some chosen) }
     ensures open { IfOk result (λ chosen. IsOpenChoice seats.now chosen) }
 {
     match choice_of(alloc, ready[index], threads, seats)? {

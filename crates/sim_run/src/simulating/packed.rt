@@ -1,13 +1,13 @@
-//! Simulations that are held packed: many are held, and one at a time is unpacked to go on.
+//! Packed simulations: many are stored packed, and one at a time is unpacked to continue.
 
 ghost use Rattle.std.specs.Prelude.{◌≡◌, ◌<◌, ◌≤◌, Some, true, IfOk, length, map, slice_get};
 ghost use Rattle.run_defs.specs.Schedules.{round};
-ghost use Rattle.sim_run.specs.Branching.{StandAlike, run_of, seat_now};
+ghost use Rattle.sim_run.specs.Branching.{AreStatesAlike, run_of, seat_now};
 ghost use Rattle.nook_data.specs.declared.limits.TheConstants.{MOST_PARTS};
 
 use super::Simulating;
 use crate::script::Script;
-use crate::seat::{PackedSeat, Seat};
+use crate::seat::{PackedSeat, SimulatedPart};
 use nook_data::memory::NoMemory;
 use nook_data::scenario::ScheduleSpec;
 use part_core::{LeftRooms, PackedPart};
@@ -15,13 +15,13 @@ use schedule::Schedule;
 use std::alloc::Global;
 use std::marker::Model;
 
-/// A run as it stands, held packed. It is under a round robin: who follows every step asks no schedule.
+/// A packed run in progress. Its schedule is a round robin: a caller that follows every step does not use it.
 #[derive(Drop)]
 pub struct PackedSimulation<'a> {
     alloc: Global,
     seats: Vec<PackedSeat<'a>>,
     threads: Vec<Script<'a>>,
-    /// Whether each thread has a step; none where that is to be found anew.
+    /// Whether each thread has a step; none if that must be found again.
     able: Option<Vec<bool>>,
 }
 
@@ -41,7 +41,7 @@ impl<'a> Model for PackedSimulation<'a> {
 }
 
 impl<'a> Simulating<'a> {
-    /// The simulation, to be held packed. The memory that it needs no more is left.
+    /// Packs the simulation, and leaves the memory that it no longer needs in `left`.
     pub fn into_packed(self, left: &mut LeftRooms) -> Result<PackedSimulation<'a>, NoMemory>
         ensures { IfOk result (λ made. made ≡ record self.entry { order = round 0 }) }
     {
@@ -62,7 +62,7 @@ impl<'a> Simulating<'a> {
 }
 
 impl<'a> PackedSimulation<'a> {
-    /// The simulation, which takes up memory that is left.
+    /// Unpacks the simulation, and reuses memory from `left`.
     #[tactic(auto, unfolding(run_defs::specs::Schedules::opening_order))]
     pub fn unpacked(&self, left: &mut LeftRooms) -> Result<Simulating<'a>, NoMemory>
         ensures { IfOk result (λ made. made ≡ self.now) }
@@ -82,10 +82,10 @@ impl<'a> PackedSimulation<'a> {
         })
     }
 
-    /// Whether the other simulation's parts are in the same states, with the same frames to come, and its threads are the
-    /// same. One of which that holds may be denied.
+    /// Whether the other simulation's parts are in the same states, with the same frames to come, and its threads are
+    /// the same. The answer may be no even if they are.
     pub fn is_alike(&self, other: &PackedSimulation) -> bool
-        ensures { result ≡ true → StandAlike self.now other.now }
+        ensures { result ≡ true → AreStatesAlike self.now other.now }
     {
         are_same_threads(&self.threads, &other.threads) && are_alike(&self.seats, &other.seats)
     }
@@ -112,10 +112,10 @@ impl<'a> PackedSimulation<'a> {
     }
 }
 
-/// The parts, to be held packed.
+/// Packs the parts.
 fn pack_seats<'a>(
     alloc: Global,
-    seats: Vec<Seat<'a>>,
+    seats: Vec<SimulatedPart<'a>>,
     left: &mut LeftRooms,
 ) -> Result<Vec<PackedSeat<'a>>, NoMemory>
     ensures { IfOk result (λ made. made.items ≡ seats.entry.items) }
@@ -127,12 +127,12 @@ fn pack_seats<'a>(
     Ok(made)
 }
 
-/// The parts, to go on.
+/// Unpacks the parts.
 fn unpack_seats<'a>(
     alloc: Global,
     seats: &[PackedSeat<'a>],
     left: &mut LeftRooms,
-) -> Result<Vec<Seat<'a>>, NoMemory>
+) -> Result<Vec<SimulatedPart<'a>>, NoMemory>
     ensures { IfOk result (λ made. made.items ≡ seats.now) }
 {
     let mut made = Vec::with_capacity(alloc, seats.len())?;
@@ -183,7 +183,7 @@ fn are_alike(seats: &[PackedSeat], others: &[PackedSeat]) -> bool
     true
 }
 
-/// A digest, and the parts' states with it.
+/// Mixes the parts' states into a digest.
 fn digest_of_seats(digest: u64, seats: &[PackedSeat]) -> u64 {
     let mut digest = digest;
     for seat in seats {
@@ -192,7 +192,7 @@ fn digest_of_seats(digest: u64, seats: &[PackedSeat]) -> u64 {
     digest
 }
 
-/// A digest, and where the threads are with it.
+/// Mixes the positions of the threads into a digest.
 fn digest_of_threads(digest: u64, threads: &[Script]) -> u64 {
     let mut digest = digest;
     for thread in threads {

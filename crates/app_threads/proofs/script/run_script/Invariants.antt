@@ -4,11 +4,11 @@ use Rattle.app_threads.specs.Workers.{AreSeats, DoesOps, KeepShares}
 use Rattle.app_threads.proofs.Stamped.{FollowsUntil}
 use Rattle.app_threads.proofs.script.run_script.Given as goal
 
-abbrev pub invariant-loop-place : goal.invariant-loop-place
-invariant-loop-place g l =
+abbrev pub invariant-loop-index : goal.invariant-loop-index
+invariant-loop-index g l =
     record {
       seats : AreSeats g.D.DeskLike.is_seat l.desks l.seats;
-      does : DoesOps (map g.D.DeskLike.view l.fn.seats) (map g.D.DeskLike.view l.seats) l.thread (take l.place l.ops) l.receipts;
+      does : DoesOps (map g.D.DeskLike.view l.fn.seats) (map g.D.DeskLike.view l.seats) l.thread (take l.index l.ops) l.receipts;
       shares : KeepShares (map g.D.DeskLike.view l.fn.seats) (map g.D.DeskLike.view l.seats);
-      order : FollowsUntil (all_stamps (map g.D.DeskLike.view l.seats)) 0 l.clock (take l.place l.ops) l.receipts;
+      order : FollowsUntil (all_stamps (map g.D.DeskLike.view l.seats)) 0 l.clock (take l.index l.ops) l.receipts;
     }

@@ -4,6 +4,6 @@ use Rattle.campaign_rows.proofs.lines.push_rows.Given as goal
 
 abbrev pub invariant-loop-row : goal.invariant-loop-row
 invariant-loop-row l = record {
-  counted : l.place ≡ l.first + l.row-index;
-  lines : l.line ++ plan_row_lines l.place (drop l.row-index l.rows) ≡ l.initial.line ++ plan_row_lines l.first l.rows;
+  counted : l.position ≡ l.first + l.row-index;
+  lines : l.line ++ plan_row_lines l.position (drop l.row-index l.rows) ≡ l.initial.line ++ plan_row_lines l.first l.rows;
 }

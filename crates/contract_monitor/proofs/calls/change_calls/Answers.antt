@@ -1,5 +1,5 @@
 use Rattle.std.proofs.Common.{◌<◌, ◌+◌, length, map, refl, ◌∙◌, arith}
-use Rattle.contract_monitor.specs.Calls.{open_of, tally_of}
+use Rattle.contract_monitor.specs.Calls.{open_of, effects_of}
 use Rattle.contract_monitor.proofs.Changes.{changed_more, length_seen, opened_all, tallied_all, within_to}
 use Rattle.contract_monitor.proofs.calls.change_calls.Goals as goal
 
@@ -11,7 +11,7 @@ loop-i-preserved c =
     record {
       opened = changed_more open_of _ c.loop-i.i (c.loop-i.i + 1) c.loop-i.calls.items _ c.index_mut.result.now c.change_if.new.call refl within
           c.loop-i.invariant.opened c.index_mut.ensures.value c.in_ok-change_if.ensures.opened;
-      tallied = changed_more tally_of _ c.loop-i.i (c.loop-i.i + 1) c.loop-i.calls.items _ c.index_mut.result.now c.change_if.new.call refl within
+      tallied = changed_more effects_of _ c.loop-i.i (c.loop-i.i + 1) c.loop-i.calls.items _ c.index_mut.result.now c.change_if.new.call refl within
           c.loop-i.invariant.tallied c.index_mut.ensures.value c.in_ok-change_if.ensures.tallied;
     }
 
@@ -25,6 +25,6 @@ returns-clause-opened c =
 pub returns-clause-tallied : goal.returns-clause-tallied
 returns-clause-tallied c =
     c.loop-i.invariant.tallied
-    ∙ tallied_all c.args.change c.args.number c.loop-i.i (map tally_of c.args.calls.now.items)
-    (length_seen tally_of c.loop-i.i c.len-i-end.result c.args.calls.now.items c.loop-i-test.false
+    ∙ tallied_all c.args.change c.args.number c.loop-i.i (map effects_of c.args.calls.now.items)
+    (length_seen effects_of c.loop-i.i c.len-i-end.result c.args.calls.now.items c.loop-i-test.false
     (omega (arith, c.len-i-end.ensures, c.args.calls.now.ok.0)))

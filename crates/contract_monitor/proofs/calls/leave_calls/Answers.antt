@@ -1,6 +1,6 @@
 use Rattle.std.proofs.Common.{◌<◌, ◌+◌, length, map, refl, ◌∙◌, arith}
 use Rattle.promise_defs.specs.Contract.{leave_call}
-use Rattle.contract_monitor.specs.Calls.{open_of, tally_of}
+use Rattle.contract_monitor.specs.Calls.{open_of, effects_of}
 use Rattle.contract_monitor.proofs.Changes.{all_changed, changed_more, length_seen, same_at, within_to}
 use Rattle.contract_monitor.proofs.calls.leave_calls.Goals as goal
 
@@ -12,7 +12,7 @@ loop-i-preserved c =
     record {
       opened = changed_more open_of leave_call c.loop-i.i (c.loop-i.i + 1) c.loop-i.calls.items _ c.index_mut.result.now c.leave_one.new.call refl
           within c.loop-i.invariant.opened c.index_mut.ensures.value c.leave_one.ensures.opened;
-      tallied = same_at tally_of c.loop-i.i c.loop-i.calls.items c.index_mut.result.now c.leave_one.new.call c.index_mut.ensures.value
+      tallied = same_at effects_of c.loop-i.i c.loop-i.calls.items c.index_mut.result.now c.leave_one.new.call c.index_mut.ensures.value
           c.leave_one.ensures.tallied ∙ c.loop-i.invariant.tallied;
     }
 

@@ -1,6 +1,6 @@
 use Rattle.std.proofs.Common.{◌<◌, ◌≡◌, ◌+◌, true, length, map, refl, sym, ap, subst, ◌∙◌, arith}
 use Rattle.promise_defs.specs.Contract.{change_first, is_playing, played_more}
-use Rattle.contract_monitor.specs.Calls.{open_of, tally_of}
+use Rattle.contract_monitor.specs.Calls.{open_of, effects_of}
 use Rattle.contract_monitor.proofs.Changes.{first_at, length_seen, none_first, none_more, on_ok, same_at, same_item}
 use Rattle.contract_monitor.proofs.calls.play_one.Goals as goal
 
@@ -18,8 +18,8 @@ returns-then-is_playing-clause-opened c =
 pub returns-then-is_playing-clause-tallied : goal.returns-then-is_playing-clause-tallied
 returns-then-is_playing-clause-tallied c =
     on_ok c.play_more.result
-    (λ e. same_at tally_of c.loop-i.i c.loop-i.calls.items c.index_mut.result.now c.play_more.new.call c.index_mut.ensures.value e
-    ∙ ap (λ v. map tally_of v.items) c.loop-i.invariant.same) c.play_more.ensures.tallied
+    (λ e. same_at effects_of c.loop-i.i c.loop-i.calls.items c.index_mut.result.now c.play_more.new.call c.index_mut.ensures.value e
+    ∙ ap (λ v. map effects_of v.items) c.loop-i.invariant.same) c.play_more.ensures.tallied
 
 pub loop-i-preserved : goal.loop-i-preserved
 loop-i-preserved c =

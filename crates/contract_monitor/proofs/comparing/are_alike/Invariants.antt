@@ -1,10 +1,10 @@
 use Rattle.std.proofs.Common.{◌≡◌, take, length, map}
-use Rattle.contract_monitor.specs.Calls.{open_of, tally_of}
+use Rattle.contract_monitor.specs.Calls.{open_of, effects_of}
 use Rattle.contract_monitor.proofs.comparing.are_alike.Given as goal
 
 abbrev pub invariant-loop-index : goal.invariant-loop-index
 invariant-loop-index l = record {
   counted : length l.calls ≡ length l.others;
   opened : map open_of (take l.index l.calls) ≡ map open_of (take l.index l.others);
-  tallied : map tally_of (take l.index l.calls) ≡ map tally_of (take l.index l.others);
+  tallied : map effects_of (take l.index l.calls) ≡ map effects_of (take l.index l.others);
 }

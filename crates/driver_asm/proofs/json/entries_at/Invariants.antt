@@ -7,4 +7,4 @@ use Rattle.driver_asm.proofs.json.entries_at.Given as goal
 abbrev pub invariant-loop-entry : goal.invariant-loop-entry
 invariant-loop-entry l =
     entry_members (drop l.entry-index l.entries) l.rest (members_view l.made.entries)
-    ≡ entry_members l.entries l.places no_members
+    ≡ entry_members l.entries l.addresses no_members

@@ -6,8 +6,8 @@ use Rattle.driver_isa.proofs.burst.strike_front.Given as goal
 
 abbrev pub invariant-loop-rest : goal.invariant-loop-rest
 invariant-loop-rest g l =
-    (strikes_at l.place (g.B.Bus.entries l.bus) l.rest (machine_of (cpu_of l.counter l.registers) (g.B.Bus.words l.bus) (g.B.Bus.device l.bus))
-    ≡ strikes_at l.place (g.B.Bus.entries l.initial.bus) l.initial.rest
+    (strikes_at l.point (g.B.Bus.entries l.bus) l.rest (machine_of (cpu_of l.counter l.registers) (g.B.Bus.words l.bus) (g.B.Bus.device l.bus))
+    ≡ strikes_at l.point (g.B.Bus.entries l.initial.bus) l.initial.rest
     (machine_of (cpu_of l.counter l.initial.registers) (g.B.Bus.words l.initial.bus) (g.B.Bus.device l.initial.bus)))
     × (g.B.Bus.entries l.bus ≡ g.B.Bus.entries l.initial.bus)
     × (g.B.Bus.held l.bus ≡ g.B.Bus.held l.initial.bus)

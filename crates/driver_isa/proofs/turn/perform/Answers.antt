@@ -1,7 +1,7 @@
 use Rattle.driver_isa.specs.Steps.{cpu_of, next_of}
 use Rattle.driver_isa.specs.Turns.{machine_of}
 use Rattle.driver_isa.proofs.Turns.{stored_turn}
-use Rattle.machine_defs.specs.Turn.{Machine}
+use Rattle.machine_defs.specs.Execution.{Machine}
 use Rattle.driver_isa.proofs.turn.perform.Goals as goal
 
 pub returns-in-St-clause-turned : goal.returns-in-St-clause-turned

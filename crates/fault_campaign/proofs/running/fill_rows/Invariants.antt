@@ -1,6 +1,6 @@
 use Rattle.std.proofs.Common.{take}
-use Rattle.fault_campaign.specs.Placed.{AreRowsFor}
+use Rattle.fault_campaign.specs.NumberedRows.{AreRowsFor}
 use Rattle.fault_campaign.proofs.running.fill_rows.Given as goal
 
-abbrev pub invariant-loop-place : goal.invariant-loop-place
-invariant-loop-place l = AreRowsFor l.plan l.shown (take l.place l.members) l.rows.items
+abbrev pub invariant-loop-index : goal.invariant-loop-index
+invariant-loop-index l = AreRowsFor l.plan l.shown (take l.index l.members) l.rows.items

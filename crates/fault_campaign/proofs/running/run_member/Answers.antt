@@ -1,7 +1,7 @@
 use Rattle.std.proofs.Common.{◌≡◌, ◌∙◌, ap, subst, sym}
 use Rattle.campaign_defs.specs.Members.{CanRunUnder}
 use Rattle.fault_campaign.specs.Members.{IsBaseButStruck}
-use Rattle.fault_campaign.specs.Outcomes.{IsRowBeside}
+use Rattle.fault_campaign.specs.Outcomes.{IsRowOver}
 use Rattle.fault_campaign.proofs.Struck.{member_but_struck}
 use Rattle.fault_campaign.proofs.running.run_member.Goals as goal
 use Rattle.plan_defs.specs.Plans.{struck_by}

@@ -22,7 +22,7 @@ returns-in_err-write_batch g t c own shown =
     let apart = lists_apart c.args.faults.now batch more (split_whole _ c.args.faults.now batch more c.split_at.ensures.front c.split_at.ensures.back)
     ∙ ap (λ front. front ++ map alone more) (sym (c.as_slice.ensures ∙ c.in_ok-members.ensures)) in
     rw (q.1, q.2)
-    (gives_cut c.args.run.now.plan.now own c.as_slice.result.now (map alone more) (map alone c.args.faults.now) _ _ _ _ _ _ _ _ apart
+    (gives_cut c.args.run.now.plan.now own c.as_slice.result.now (map alone more) (map alone c.args.faults.now) _ _ _ _ _ apart
     (c.in_err-write_batch.ensures own shown))
 
 pub write_alone-requires-clause-can_run : goal.write_alone-requires-clause-can_run
@@ -39,5 +39,5 @@ returns g t c own shown =
     let more = c.split_at.result.1.now in
     let apart = lists_apart c.args.faults.now batch more (split_whole _ c.args.faults.now batch more c.split_at.ensures.front c.split_at.ensures.back)
     ∙ ap (λ front. front ++ map alone more) (sym (c.as_slice.ensures ∙ c.in_ok-members.ensures)) in
-    gives_then c.args.run.now.plan.now own c.as_slice.result.now (map alone more) (map alone c.args.faults.now) _ _ _ _ _ _ _ _ _ _ _ apart
+    gives_then c.args.run.now.plan.now own c.as_slice.result.now (map alone more) (map alone c.args.faults.now) _ _ _ _ _ _ _ _ apart
     (c.in_ok-write_batch.ensures own shown) (c.write_alone.ensures own shown)

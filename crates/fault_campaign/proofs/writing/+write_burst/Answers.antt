@@ -9,7 +9,7 @@ use Rattle.fault_campaign.proofs.writing.+write_burst.Goals as goal
 
 pub returns-then-turns-eq0 : goal.returns-then-turns-eq0
 returns-then-turns-eq0 g t c own shown =
-    gives_none c.args.run.now.plan.now own (map alone (faults_in c.args.kinds.now c.args.turns.burst c.args.turns.after c.args.turns.count)) tt _ _ c.args.tally.now
+    gives_none c.args.run.now.plan.now own (map alone (faults_in c.args.kinds.now c.args.turns.burst c.args.turns.after c.args.turns.count)) tt _ c.args.totals.now
     (no_turns c.args.kinds.now c.args.turns.burst c.args.turns.after c.args.turns.count c.if-turns-eq0.true)
 
 pub write_alone-requires-clause-can_run : goal.write_alone-requires-clause-can_run
@@ -30,7 +30,7 @@ returns-in_err-write_alone g t c own shown =
     let apart = burst_apart c.args.kinds.now c.args.turns.burst c.args.turns.after some (c.args.turns.count - some) c.args.turns.count (turns_in_two c.args.turns.count _ some c.min-count.ensures)
     ∙ ap (λ faults. map alone faults ++ more) (sym (c.as_slice.ensures ∙ c.in_ok-faults.ensures)) in
     rw (q.1, q.2)
-    (gives_cut c.args.run.now.plan.now own (map alone c.as_slice.result.now) more (map alone (faults_in c.args.kinds.now c.args.turns.burst c.args.turns.after c.args.turns.count)) _ _ _ _ _ _ _ _ apart
+    (gives_cut c.args.run.now.plan.now own (map alone c.as_slice.result.now) more (map alone (faults_in c.args.kinds.now c.args.turns.burst c.args.turns.after c.args.turns.count)) _ _ _ _ _ apart
     (c.in_err-write_alone.ensures own shown))
 
 pub write_burst-requires-clause-can_run : goal.write_burst-requires-clause-can_run
@@ -48,5 +48,5 @@ returns g t c own shown =
     let more = map alone (faults_in c.args.kinds.now c.args.turns.burst (c.args.turns.after + some) (c.args.turns.count - some)) in
     let apart = burst_apart c.args.kinds.now c.args.turns.burst c.args.turns.after some (c.args.turns.count - some) c.args.turns.count (turns_in_two c.args.turns.count _ some c.min-count.ensures)
     ∙ ap (λ faults. map alone faults ++ more) (sym (c.as_slice.ensures ∙ c.in_ok-faults.ensures)) in
-    gives_then c.args.run.now.plan.now own (map alone c.as_slice.result.now) more (map alone (faults_in c.args.kinds.now c.args.turns.burst c.args.turns.after c.args.turns.count)) _ _ _ _ _ _ _ _ _ _ _ apart
+    gives_then c.args.run.now.plan.now own (map alone c.as_slice.result.now) more (map alone (faults_in c.args.kinds.now c.args.turns.burst c.args.turns.after c.args.turns.count)) _ _ _ _ _ _ _ _ apart
     (c.in_ok-write_alone.ensures own shown) (c.write_burst.ensures own shown)

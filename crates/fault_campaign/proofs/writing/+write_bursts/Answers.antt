@@ -3,15 +3,15 @@ use Rattle.std.proofs.lemmas.Result.{err_from_is_err_and}
 use Rattle.campaign_defs.specs.Members.{CanRunMember, alone}
 use Rattle.fault_campaign.proofs.EveryFaults.{bursts_as}
 use Rattle.fault_campaign.proofs.Given.{all_in_back, all_in_front, gives_cut, gives_then}
-use Rattle.fault_places.specs.Places.{faults_at}
+use Rattle.fault_points.specs.Points.{faults_at}
 use Rattle.guard_defs.specs.Every.{faults_in}
 use Rattle.fault_campaign.proofs.writing.+write_bursts.Goals as goal
 
 pub write_burst-requires-clause-can_run : goal.write_burst-requires-clause-can_run
 write_burst-requires-clause-can_run g t c κs within =
     all_in_front (CanRunMember c.args.run.now.plan.now) (map alone (faults_in c.args.kinds.now c.all_turns-turns.result.burst c.all_turns-turns.result.after c.all_turns-turns.result.count))
-    (map alone (faults_at c.args.kinds.now c.in-Some.more.now)) (map alone (faults_at c.args.kinds.now c.args.places.now))
-    (bursts_as c.args.kinds.now c.args.places.now c.in-Some.first.now c.in-Some.more.now c.all_turns-turns.result.burst c.all_turns-turns.result.after
+    (map alone (faults_at c.args.kinds.now c.in-Some.more.now)) (map alone (faults_at c.args.kinds.now c.args.points.now))
+    (bursts_as c.args.kinds.now c.args.points.now c.in-Some.first.now c.in-Some.more.now c.all_turns-turns.result.burst c.all_turns-turns.result.after
     c.all_turns-turns.result.count c.in-Some.ensures.cases.0 c.all_turns-turns.ensures.burst c.all_turns-turns.ensures.after c.all_turns-turns.ensures.count)
     c.requires.can_run
 
@@ -20,23 +20,23 @@ returns-in_err-write_burst g t c own shown =
     let q = err_from_is_err_and c.from_residual.result c.from_residual.ensures.1 in
     rw (q.1, q.2)
     (gives_cut c.args.run.now.plan.now own (map alone (faults_in c.args.kinds.now c.all_turns-turns.result.burst c.all_turns-turns.result.after c.all_turns-turns.result.count))
-    (map alone (faults_at c.args.kinds.now c.in-Some.more.now)) (map alone (faults_at c.args.kinds.now c.args.places.now)) _ _ _ _ _ _ _ _
-    (bursts_as c.args.kinds.now c.args.places.now c.in-Some.first.now c.in-Some.more.now c.all_turns-turns.result.burst c.all_turns-turns.result.after
+    (map alone (faults_at c.args.kinds.now c.in-Some.more.now)) (map alone (faults_at c.args.kinds.now c.args.points.now)) _ _ _ _ _
+    (bursts_as c.args.kinds.now c.args.points.now c.in-Some.first.now c.in-Some.more.now c.all_turns-turns.result.burst c.all_turns-turns.result.after
     c.all_turns-turns.result.count c.in-Some.ensures.cases.0 c.all_turns-turns.ensures.burst c.all_turns-turns.ensures.after c.all_turns-turns.ensures.count)
     (c.in_err-write_burst.ensures own shown))
 
 pub write_bursts-requires-clause-can_run : goal.write_bursts-requires-clause-can_run
 write_bursts-requires-clause-can_run g t c κs within =
     all_in_back (CanRunMember c.args.run.now.plan.now) (map alone (faults_in c.args.kinds.now c.all_turns-turns.result.burst c.all_turns-turns.result.after c.all_turns-turns.result.count))
-    (map alone (faults_at c.args.kinds.now c.in-Some.more.now)) (map alone (faults_at c.args.kinds.now c.args.places.now))
-    (bursts_as c.args.kinds.now c.args.places.now c.in-Some.first.now c.in-Some.more.now c.all_turns-turns.result.burst c.all_turns-turns.result.after
+    (map alone (faults_at c.args.kinds.now c.in-Some.more.now)) (map alone (faults_at c.args.kinds.now c.args.points.now))
+    (bursts_as c.args.kinds.now c.args.points.now c.in-Some.first.now c.in-Some.more.now c.all_turns-turns.result.burst c.all_turns-turns.result.after
     c.all_turns-turns.result.count c.in-Some.ensures.cases.0 c.all_turns-turns.ensures.burst c.all_turns-turns.ensures.after c.all_turns-turns.ensures.count)
     c.requires.can_run
 
 pub returns : goal.returns
 returns g t c own shown =
     gives_then c.args.run.now.plan.now own (map alone (faults_in c.args.kinds.now c.all_turns-turns.result.burst c.all_turns-turns.result.after c.all_turns-turns.result.count))
-    (map alone (faults_at c.args.kinds.now c.in-Some.more.now)) (map alone (faults_at c.args.kinds.now c.args.places.now)) _ _ _ _ _ _ _ _ _ _ _
-    (bursts_as c.args.kinds.now c.args.places.now c.in-Some.first.now c.in-Some.more.now c.all_turns-turns.result.burst c.all_turns-turns.result.after
+    (map alone (faults_at c.args.kinds.now c.in-Some.more.now)) (map alone (faults_at c.args.kinds.now c.args.points.now)) _ _ _ _ _ _ _ _
+    (bursts_as c.args.kinds.now c.args.points.now c.in-Some.first.now c.in-Some.more.now c.all_turns-turns.result.burst c.all_turns-turns.result.after
     c.all_turns-turns.result.count c.in-Some.ensures.cases.0 c.all_turns-turns.ensures.burst c.all_turns-turns.ensures.after c.all_turns-turns.ensures.count)
     (c.in_ok-write_burst.ensures own shown) (c.write_bursts.ensures own shown)

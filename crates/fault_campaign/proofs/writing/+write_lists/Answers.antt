@@ -8,13 +8,13 @@ returns-in_err-write_batch g t c own shown =
     let batch = c.split_at.result.0.now in
     let more = c.split_at.result.1.now in
     rw (q.1, q.2)
-    (gives_cut c.args.run.now.plan.now own batch more c.args.members.now _ _ _ _ _ _ _ _
+    (gives_cut c.args.run.now.plan.now own batch more c.args.members.now _ _ _ _ _
     (split_whole _ c.args.members.now batch more c.split_at.ensures.front c.split_at.ensures.back) (c.in_err-write_batch.ensures own shown))
 
 pub returns : goal.returns
 returns g t c own shown =
     let batch = c.split_at.result.0.now in
     let more = c.split_at.result.1.now in
-    gives_then c.args.run.now.plan.now own batch more c.args.members.now _ _ _ _ _ _ _ _ _ _ _
+    gives_then c.args.run.now.plan.now own batch more c.args.members.now _ _ _ _ _ _ _ _
     (split_whole _ c.args.members.now batch more c.split_at.ensures.front c.split_at.ensures.back)
     (c.in_ok-write_batch.ensures own shown) (c.write_lists.ensures own shown)

@@ -3,7 +3,7 @@ use Rattle.std.proofs.lemmas.Result.{err_from_is_err_and}
 use Rattle.campaign_defs.specs.Members.{runs_every}
 use Rattle.campaign_defs.specs.Rows.{plan_row}
 use Rattle.campaign_defs.specs.TableText.{base_line, plan_last_line, plan_row_lines}
-use Rattle.campaign_rows.specs.Tallies.{tally_text}
+use Rattle.campaign_rows.specs.CampaignCounts.{campaign_counts_text}
 use Rattle.fault_campaign.proofs.Given.{line_of_base, shown_of_base, wrote_as}
 use Rattle.report_text.proofs.WroteLemmas.{both, cut}
 use Rattle.fault_campaign.proofs.writing.write_campaign.Goals as goal
@@ -24,7 +24,7 @@ returns-in_err-write_members g c base rows table =
     (both (wrote_as (base_line (runs_every c.args.plan.now.strikes) (plan_row c.args.plan.now base base))
     (line_of_base c.args.plan.now c.in_ok-base.base base rows c.in_ok-base.ensures table) c.in_ok-write_first.ensures)
     (cut (plan_last_line c.args.plan.now.guard rows)
-    ((c.in_err-write_members.ensures base table.is_base shown).written [] rows c.new-tally.ensures table.members)))
+    ((c.in_err-write_members.ensures base table.is_base shown).written [] rows c.new-totals.ensures table.members)))
 
 pub returns : goal.returns
 returns g c base rows table =
@@ -32,6 +32,6 @@ returns g c base rows table =
     let given = c.in_ok-write_members.ensures base table.is_base shown in
     both (wrote_as (base_line (runs_every c.args.plan.now.strikes) (plan_row c.args.plan.now base base))
     (line_of_base c.args.plan.now c.in_ok-base.base base rows c.in_ok-base.ensures table) c.in_ok-write_first.ensures)
-    (both (given.written [] rows c.new-tally.ensures table.members)
+    (both (given.written [] rows c.new-totals.ensures table.members)
     (wrote_as (plan_last_line c.args.plan.now.guard rows)
-    (ap (tally_text c.args.plan.now.guard) (given.counted [] rows c.new-tally.ensures table.members)) c.write_tally.ensures))
+    (ap (campaign_counts_text c.args.plan.now.guard) (given.counted [] rows c.new-totals.ensures table.members)) c.write_counts.ensures))

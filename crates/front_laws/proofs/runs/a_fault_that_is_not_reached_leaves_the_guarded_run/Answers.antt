@@ -11,4 +11,4 @@ pub returns-clause-whole : goal.returns-clause-whole
 returns-clause-whole c = guarded_schedule_same
 
 pub returns-clause-same : goal.returns-clause-same
-returns-clause-same c = λ place fault own s. (owned_journals (inserted_at place own fault) s, refl)
+returns-clause-same c = λ index fault own s. (owned_journals (inserted_at index own fault) s, refl)

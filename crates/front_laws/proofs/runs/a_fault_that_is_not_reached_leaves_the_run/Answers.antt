@@ -10,4 +10,4 @@ pub returns-clause-whole : goal.returns-clause-whole
 returns-clause-whole c = scheduled_same
 
 pub returns-clause-same : goal.returns-clause-same
-returns-clause-same c = λ place fault s. (owned_journals (struck_at place fault) s, refl)
+returns-clause-same c = λ index fault s. (owned_journals (struck_at index fault) s, refl)

@@ -12,4 +12,4 @@ pub returns-clause-back : goal.returns-clause-back
 returns-clause-back c = first_back
 
 pub returns-clause-same : goal.returns-clause-same
-returns-clause-same c = λ scenario place fault s. refl
+returns-clause-same c = λ scenario index fault s. refl

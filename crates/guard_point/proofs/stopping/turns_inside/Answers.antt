@@ -5,6 +5,6 @@ use Rattle.guard_point.proofs.stopping.turns_inside.Goals as goal
 pub returns : goal.returns
 returns c =
     if_ok c.turns_before.result
-    (λ n h. turns_apart c.args.place n c.args.inside.now c.args.faults.now c.args.domain.state _ _ _ c.detach-bus.ensures.words
+    (λ n h. turns_apart c.args.index n c.args.inside.now c.args.faults.now c.args.domain.state _ _ _ c.detach-bus.ensures.words
     c.detach-bus.ensures.entries c.detach-bus.ensures.device h)
     c.turns_before.ensures

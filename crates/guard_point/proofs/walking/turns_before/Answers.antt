@@ -19,7 +19,7 @@ pub loop-turns-preserved : goal.loop-turns-preserved
 loop-turns-preserved g c = record {
   left = walk_goes_on _ _ _ _ _ _ _ _ _ _ _ _ _ c.loop-turns-test.true c.loop-turns.invariant.left c.loop-turns.invariant.same
       c.strike_due-struck.ensures.struck (grind arith) c.strike_due-struck.ensures.entries c.turn-crossing.ensures.turned (grind arith);
-  few = few_after c.turn-crossing.result c.args.place c.turn-crossing.new.acts (grind arith);
+  few = few_after c.turn-crossing.result c.args.index c.turn-crossing.new.acts (grind arith);
   same = c.turn-crossing.ensures.entries ∙ c.strike_due-struck.ensures.entries ∙ c.loop-turns.invariant.same;
 }
 

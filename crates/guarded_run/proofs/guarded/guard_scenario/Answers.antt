@@ -1,7 +1,7 @@
 use Rattle.std.proofs.Common.{subst}
 use Rattle.guarded_run.specs.NextStop.{IsNextStop}
 use Rattle.guarded_run.proofs.Rounds.{before_rounds, few_rounds, round_more, round_valid, rounds_end}
-use Rattle.guarded_run.proofs.Stopping.{stop_place}
+use Rattle.guarded_run.proofs.Stopping.{stop_index}
 use Rattle.guarded_run.proofs.guarded.guard_scenario.Goals as goal
 
 pub loop-round-init : goal.loop-round-init
@@ -14,7 +14,7 @@ next_stop-requires c =
 
 pub add-requires : goal.add-requires
 add-requires c =
-    stop_place c.loop-round.guarded.scenario c.in-Some.stop
+    stop_index c.loop-round.guarded.scenario c.in-Some.stop
     (subst (IsNextStop c.loop-round.guarded.scenario) c.in-Some.is c.in_ok-stop.ensures)
 
 pub loop-round-preserved : goal.loop-round-preserved

@@ -1,10 +1,10 @@
 use Rattle.std.proofs.Common.{subst}
 use Rattle.guard_point.specs.Stopping.{StopsBurst}
-use Rattle.guarded_run.proofs.Stopping.{first_stop, some_stop, wrong_place}
+use Rattle.guarded_run.proofs.Stopping.{first_stop, some_stop, wrong_index}
 use Rattle.guarded_run.proofs.guarded.stop_before.Goals as goal
 
 pub get-requires : goal.get-requires
-get-requires c = wrong_place c.args.scenario.now c.args.wrong c.requires
+get-requires c = wrong_index c.args.scenario.now c.args.wrong c.requires
 
 pub unreachable-requires : goal.unreachable-requires
 unreachable-requires c =

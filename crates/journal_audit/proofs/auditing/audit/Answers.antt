@@ -16,9 +16,9 @@ returns-in-Ok c = record {
 
 pub returns-in-Err-Unfit : goal.returns-in-Err-Unfit
 returns-in-Err-Unfit c =
-    let told = rw c.in-Err-Unfit.field-0-is at c.in-Err-Unfit.ensures in
+    let reported = rw c.in-Err-Unfit.field-0-is at c.in-Err-Unfit.ensures in
     record {
       exact =
           subst (λ (line : ℕ). Finds c.args.scenario.now c.args.report.now (Some line)) (sym c.in-Err-Unfit.line-is)
-          (finds_unfit c.args.scenario.now c.args.report.now c.new-cursor.result c.in-Err-Unfit.line c.new-cursor.ensures told);
+          (finds_unfit c.args.scenario.now c.args.report.now c.new-cursor.result c.in-Err-Unfit.line c.new-cursor.ensures reported);
     }

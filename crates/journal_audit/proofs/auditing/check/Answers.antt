@@ -1,4 +1,4 @@
--- The sections are checked, the lines behind them, and that nothing follows.
+-- The sections are checked, then the lines after them, and that nothing follows.
 use Rattle.std.proofs.Common.{[], sym}
 use Rattle.std.proofs.lemmas.Result.{err_from_is_err_and}
 use Rattle.run_laws.specs.Audit.{opening_audit}

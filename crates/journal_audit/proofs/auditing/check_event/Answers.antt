@@ -1,4 +1,4 @@
--- The next line is missing, or that of an event which fits or does not.
+-- The next line is missing, or is that of an event, which fits or does not.
 use Rattle.std.proofs.Common.{ℕ, List, Bor, Bool, Some, refl, sym, ap, subst, ◌∙◌}
 use Rattle.std.proofs.lemmas.Result.{err_from_is_err_and}
 use Rattle.journal_audit.proofs.Finding.{event_refused, no_line_unfit, stopped}
@@ -6,7 +6,7 @@ use Rattle.journal_audit.proofs.Reading.{reads_none, reads_taken}
 use Rattle.journal_audit.specs.Readings.{Reads}
 use Rattle.journal_audit.proofs.auditing.check_event.Goals as goal
 use Rattle.journal_audit.specs.Found.{found_from, inside}
-use Rattle.journal_audit.specs.Placed.{HasNoLine}
+use Rattle.journal_audit.specs.Position.{HasNoLine}
 
 pub returns-in_err-line-clause-checks : goal.returns-in_err-line-clause-checks
 returns-in_err-line-clause-checks c = λ scenario sections coming.

@@ -1,7 +1,7 @@
-use Rattle.std.proofs.Common.{Some, ap, subst, ◌∙◌}
+use Rattle.std.proofs.Common.{ap, subst, ◌∙◌}
 use Rattle.run_laws.specs.Audit.{section_end}
 use Rattle.report_text.specs.Writing.{Wrote}
-use Rattle.journal_audit.specs.Comparisons.{Comparison, held_in, untouched}
+use Rattle.journal_audit.specs.Comparisons.{Comparison, change_in, untouched}
 use Rattle.journal_audit.proofs.Taken.{Held, text_kept}
 use Rattle.journal_audit.proofs.Endings.{end_written, settled_ok, settled_unfit}
 use Rattle.journal_audit.proofs.ending.compare_ending.Goals as goal
@@ -12,12 +12,10 @@ held : (c : After-write_final-written)
 held c = record {
   is =
       subst
-      (λ (x : Comparison). Wrote (Some (held_in x)) (Some (held_in c.write_final-written.new.sink)) x.faults
-      c.write_final-written.new.sink.faults c.write_final-written.result (section_end c.args.section.now))
+      (λ (x : Comparison). Wrote (change_in x c.write_final-written.new.sink) c.write_final-written.result (section_end c.args.section.now))
       (c.new-compared.ensures ∙ ap untouched c.rest.ensures)
       (end_written c.args.section.now c.part.result.now c.spec.result.now c.events.result.now c.args.judged.now c.in_ok-end.end
-      (λ text. Wrote (Some (held_in c.new-compared.result)) (Some (held_in c.write_final-written.new.sink)) c.new-compared.result.faults
-      c.write_final-written.new.sink.faults c.write_final-written.result text)
+      (λ text. Wrote (change_in c.new-compared.result c.write_final-written.new.sink) c.write_final-written.result text)
       c.part.ensures.run c.part.ensures.spec c.spec.ensures c.events.ensures.events c.requires c.in_ok-end.ensures
       c.write_final-written.ensures.text);
 }

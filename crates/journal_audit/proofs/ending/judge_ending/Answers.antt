@@ -2,7 +2,7 @@ use Rattle.std.proofs.Common.{◌++◌, ◌∷◌, [], Some, ap, sym, ◌∙◌}
 use Rattle.std.proofs.lemmas.Result.{err_from_is_err_and}
 use Rattle.run_laws.proofs.Wholes.{section_end_ended}
 use Rattle.run_laws.specs.Audit.{done_of, section_end}
-use Rattle.report_text.specs.declared.whole_report.PartReport.{PartReport}
+use Rattle.run_results.specs.declared.report.PartReport.{PartReport}
 use Rattle.journal_audit.specs.Found.{between}
 use Rattle.journal_audit.proofs.Endings.{departs_found, ending_due, ending_early}
 use Rattle.journal_audit.proofs.Lines.{due_followed}

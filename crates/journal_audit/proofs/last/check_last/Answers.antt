@@ -1,11 +1,11 @@
-use Rattle.std.proofs.Common.{◌≡◌, Some, List, ◌++◌, [], ap, sym, subst, ◌∙◌}
+use Rattle.std.proofs.Common.{◌≡◌, List, ◌++◌, [], ap, sym, subst, ◌∙◌}
 use Rattle.nook_data.specs.declared.scenario.Scenario.{Scenario}
 use Rattle.run_laws.specs.Audit.{Done, last_lines}
 use Rattle.journal_audit.specs.PastSections.{SumsUp}
 use Rattle.report_defs.specs.ReportText.{status_line, taps_text, threads_text}
-use Rattle.report_text.specs.Statuses.{status_number}
+use Rattle.run_results.specs.Statuses.{status_number}
 use Rattle.report_text.specs.Writing.{Wrote}
-use Rattle.journal_audit.specs.Comparisons.{Comparison, held_in, untouched}
+use Rattle.journal_audit.specs.Comparisons.{Comparison, change_in, untouched}
 use Rattle.journal_audit.specs.Found.{at_last, found_from}
 use Rattle.journal_audit.specs.Stopping.{Checks}
 use Rattle.run_laws.proofs.Wholes.{last_lines_ended}
@@ -20,8 +20,7 @@ held : (c : After-write_last-written)
 held c = record {
   is =
       subst
-      (λ (x : Comparison). Wrote (Some (held_in x)) (Some (held_in c.write_last-written.new.sink)) x.faults
-      c.write_last-written.new.sink.faults c.write_last-written.result
+      (λ (x : Comparison). Wrote (change_in x c.write_last-written.new.sink) c.write_last-written.result
       (threads_text 0 c.args.threads.now c.as_slice.result.now ++ (taps_text 0 c.in_ok-taps.taps ++ status_line (status_number c.status.result))))
       (c.new-compared.ensures ∙ ap untouched c.rest.ensures) c.write_last-written.ensures;
 }

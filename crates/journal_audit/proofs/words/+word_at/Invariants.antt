@@ -1,4 +1,4 @@
 use Rattle.journal_audit.proofs.words.+word_at.Given as goal
 
 abbrev pub decreases-word_at : goal.decreases-word_at
-decreases-word_at l = l.place
+decreases-word_at l = l.index

@@ -1,6 +1,6 @@
 use Rattle.std.proofs.Common.{◌≤◌, length, map, rules, subst, sym}
 use Rattle.request_taps.specs.Bus.{seen}
-use Rattle.run_ends.proofs.Told.{on_err}
+use Rattle.run_ends.proofs.Heard.{on_err}
 use Rattle.mirrored_run.proofs.Whole.{few_journals, heard_all, heard_nothing}
 use Rattle.mirrored_run.proofs.running.run_mirror.Goals as goal
 

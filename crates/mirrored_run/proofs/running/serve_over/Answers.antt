@@ -4,7 +4,7 @@ use Rattle.mirror_block.specs.Mirrors.{MirrorView}
 use Rattle.part_server.specs.Desk.{IsDeskSeat, desk_spec}
 use Rattle.part_server.specs.declared.desk.PartDesk.{PartDesk}
 use Rattle.mirrored_run.specs.Mirrors.{ops_of_thread}
-use Rattle.mirrored_run.proofs.Behind.{exchanged_by, same_sides}
+use Rattle.mirrored_run.proofs.Following.{exchanged_by, same_sides}
 use Rattle.threaded_run.proofs.Sending.{desk_sync, seat_send}
 use Rattle.mirrored_run.proofs.running.serve_over.Goals as goal
 

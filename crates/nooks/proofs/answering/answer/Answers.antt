@@ -7,7 +7,7 @@ returns-in-Run-clause-ends g c = rw (c.in-Run.is) c.run_scenario.ensures.ends
 pub returns-in-Guard-clause-ends : goal.returns-in-Guard-clause-ends
 returns-in-Guard-clause-ends g c = rw (c.in-Guard.is) c.run_guard.ensures.ends
 
--- whoever listens, these hear nothing
+-- no listener hears anything of these subcommands
 
 pub returns-in-Asm-clause-ends : goal.returns-in-Asm-clause-ends
 returns-in-Asm-clause-ends g c = rw (c.in-Asm.is) (c.run_asm.ensures.ends [])

@@ -19,7 +19,7 @@ returns-in-Err-NoMemory-clause-ends g c base rows table =
     let wrote = c.in-Err-NoMemory.ensures base rows table in
     says_cut ended.Done (plan_table_text c.args.plan.now base rows) _ wrote.err
 
--- there is a table, so the sink's count is told
+-- a table exists, so the contract gives the sink's count
 
 pub returns-in-Ok-clause-later : goal.returns-in-Ok-clause-later
 returns-in-Ok-clause-later g c =
@@ -43,4 +43,4 @@ returns-in-Err-Fault-clause-kept g c other = absurd (other refl)
 pub returns-in-Err-NoMemory-clause-kept : goal.returns-in-Err-NoMemory-clause-kept
 returns-in-Err-NoMemory-clause-kept g c other =
     let there = plan_table_exists c.args.plan.now c.requires in
-    (c.in-Err-NoMemory.ensures there.0 there.1.0 there.1.1).wanting (ap Err c.in-Err-NoMemory.field-0-is)
+    (c.in-Err-NoMemory.ensures there.0 there.1.0 there.1.1).no_memory (ap Err c.in-Err-NoMemory.field-0-is)

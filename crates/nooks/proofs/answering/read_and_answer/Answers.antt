@@ -1,6 +1,6 @@
 use Rattle.std.proofs.Common.{Err, ap, is_err, sym, true≢false}
 use Rattle.nooks.specs.Streams.{Whole}
-use Rattle.nooks.proofs.Called.{fault_told, stop_ends}
+use Rattle.nooks.proofs.Called.{fault_reported, stop_ends}
 use Rattle.nooks.proofs.Written.{input_ends}
 use Rattle.nooks.proofs.answering.read_and_answer.Goals as goal
 
@@ -19,4 +19,4 @@ returns-in-Ok-clause-source_kept g c other = c.in-Ok.ensures.no_fault (λ e. tru
 
 pub returns-in-Err-clause-source_kept : goal.returns-in-Err-clause-source_kept
 returns-in-Err-clause-source_kept g c other =
-    c.in-Err.ensures.no_fault (λ e. other (fault_told c.in-Err.stop _ c.refuse_source.result e c.refuse_source.ensures.ends))
+    c.in-Err.ensures.no_fault (λ e. other (fault_reported c.in-Err.stop _ c.refuse_source.result e c.refuse_source.ensures.ends))

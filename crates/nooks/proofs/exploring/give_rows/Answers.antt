@@ -28,4 +28,4 @@ pub returns-in-Err-Fault-clause-kept : goal.returns-in-Err-Fault-clause-kept
 returns-in-Err-Fault-clause-kept g c other = absurd (other refl)
 
 pub returns-in-Err-NoMemory-clause-kept : goal.returns-in-Err-NoMemory-clause-kept
-returns-in-Err-NoMemory-clause-kept g c other = c.in-Err-NoMemory.ensures.wanting (ap Err c.in-Err-NoMemory.field-0-is)
+returns-in-Err-NoMemory-clause-kept g c other = c.in-Err-NoMemory.ensures.no_memory (ap Err c.in-Err-NoMemory.field-0-is)

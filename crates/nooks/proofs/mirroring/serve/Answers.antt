@@ -1,6 +1,6 @@
 use Rattle.std.proofs.Common.{◌∙◌, inl, sym}
 use Rattle.nooks.proofs.Mirrors.{mirror_answers, not_served}
-use Rattle.nooks.proofs.Written.{kept_told}
+use Rattle.nooks.proofs.Written.{kept_reported}
 use Rattle.nooks.proofs.mirroring.serve.Goals as goal
 
 pub returns-then-not-is_mirror-clause-ends : goal.returns-then-not-is_mirror-clause-ends
@@ -13,4 +13,4 @@ returns-in-Ok-clause-ends g c bytes reading =
     (c.serve_and_report.ensures.ends _ c.in-Ok.ensures)
 
 pub returns-in-Err-clause-ends : goal.returns-in-Err-clause-ends
-returns-in-Err-clause-ends g c bytes reading = inl (kept_told _)
+returns-in-Err-clause-ends g c bytes reading = inl (kept_reported _)

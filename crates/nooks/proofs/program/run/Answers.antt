@@ -2,7 +2,7 @@ use Rattle.nooks.proofs.Called.{form_ended, waiting_asks, words_complete, words_
 use Rattle.command_forms.specs.Forms.{form_for}
 use Rattle.nooks.proofs.program.run.Goals as goal
 
--- words of a form that waits
+-- the arguments of a subcommand that waits
 
 pub returns-in-Some-clause-written : goal.returns-in-Some-clause-written
 returns-in-Some-clause-written g c = words_written _ _ _ _ c.read_and_wait.result
@@ -58,7 +58,7 @@ returns-in-Some-clause-taken g c =
 pub returns-in-Some-clause-unread : goal.returns-in-Some-clause-unread
 returns-in-Some-clause-unread g c unread = waiting_asks _ c.in-Some.asked c.in-Some.ensures.found unread
 
--- all others
+-- all other arguments
 
 pub returns-in-None-clause-written : goal.returns-in-None-clause-written
 returns-in-None-clause-written g c = words_written _ _ _ _ c.run_alone.result c.run_alone.ensures.ends

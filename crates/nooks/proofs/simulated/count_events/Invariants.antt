@@ -1,6 +1,6 @@
 use Rattle.std.proofs.Common.{◌≡◌, ◌+◌, drop, map}
 use Rattle.run_defs.specs.Simulation.{events_count}
-use Rattle.run_ends.specs.Journals.{events_in}
+use Rattle.run_results.specs.Journals.{events_in}
 use Rattle.nooks.proofs.simulated.count_events.Given as goal
 
 abbrev pub invariant-loop-journal : goal.invariant-loop-journal

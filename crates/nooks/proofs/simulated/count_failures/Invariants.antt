@@ -1,5 +1,5 @@
 use Rattle.std.proofs.Common.{◌≡◌, ◌+◌, ◌*◌, ◌≤◌, drop}
-use Rattle.report_text.specs.Whole.{failures_in}
+use Rattle.run_results.specs.Reports.{failures_in}
 use Rattle.nooks.proofs.simulated.count_failures.Given as goal
 
 abbrev pub invariant-loop-part : goal.invariant-loop-part

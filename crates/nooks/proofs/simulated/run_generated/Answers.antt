@@ -18,4 +18,4 @@ pub returns-in-Ok-write_summary-clause-kept : goal.returns-in-Ok-write_summary-c
 returns-in-Ok-write_summary-clause-kept g c other = c.in-Ok-write_summary.ensures.kept
 
 pub returns-clause-kept : goal.returns-clause-kept
-returns-clause-kept g c other = c.in-Err-NoMemory.ensures.wanting (ap Err c.in-Err-NoMemory.field-0-is)
+returns-clause-kept g c other = c.in-Err-NoMemory.ensures.no_memory (ap Err c.in-Err-NoMemory.field-0-is)

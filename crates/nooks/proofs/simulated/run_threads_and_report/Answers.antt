@@ -1,5 +1,5 @@
 use Rattle.std.proofs.Common.{inl}
-use Rattle.nooks.proofs.Written.{kept_told}
+use Rattle.nooks.proofs.Written.{kept_reported}
 use Rattle.command_forms.specs.declared.words.Form.TheVariants as form
 use Rattle.nooks.proofs.simulated.run_threads_and_report.Goals as goal
 
@@ -7,4 +7,4 @@ pub returns-in-Ok-clause-ends : goal.returns-in-Ok-clause-ends
 returns-in-Ok-clause-ends g c hearing begun = c.give_report.ensures.ends form.RunThreads hearing (c.in-Ok.ensures hearing begun)
 
 pub returns-in-Err-clause-ends : goal.returns-in-Err-clause-ends
-returns-in-Err-clause-ends g c hearing begun = inl (kept_told _)
+returns-in-Err-clause-ends g c hearing begun = inl (kept_reported _)

@@ -1,5 +1,5 @@
 use Rattle.std.proofs.Common.{sym, true≢false}
-use Rattle.report_text.specs.declared.status.ReportStatus.TheVariants as reports
+use Rattle.run_results.specs.declared.status.ReportStatus.TheVariants as reports
 use Rattle.nooks.proofs.simulated.status_of.Goals as goal
 
 pub returns-in-None : goal.returns-in-None

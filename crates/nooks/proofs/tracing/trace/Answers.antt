@@ -24,4 +24,4 @@ returns-in-Err-Fault-clause-kept g c other = absurd (other refl)
 
 pub returns-in-Err-NoMemory-clause-kept : goal.returns-in-Err-NoMemory-clause-kept
 returns-in-Err-NoMemory-clause-kept g c other =
-    c.in-Err-NoMemory.ensures.written.wrote.wrote.wanting (ap Err c.in-Err-NoMemory.field-0-is)
+    c.in-Err-NoMemory.ensures.written.wrote.wrote.no_memory (ap Err c.in-Err-NoMemory.field-0-is)

@@ -1,7 +1,7 @@
 use Rattle.std.proofs.Common.{Err, ap, is_err, sym, true≢false}
 use Rattle.command_forms.specs.Forms.{form_for}
 use Rattle.nooks.specs.Streams.{Whole}
-use Rattle.nooks.proofs.Called.{fault_told, stop_ends, waiting_limit, waiting_reads}
+use Rattle.nooks.proofs.Called.{fault_reported, stop_ends, waiting_limit, waiting_reads}
 use Rattle.nooks.proofs.Written.{input_ends}
 use Rattle.nooks.proofs.waiting.read_and_wait.Goals as goal
 
@@ -20,4 +20,4 @@ returns-in-Ok-clause-source_kept g c other = c.in-Ok.ensures.no_fault (λ e. tru
 
 pub returns-in-Err-clause-source_kept : goal.returns-in-Err-clause-source_kept
 returns-in-Err-clause-source_kept g c other =
-    c.in-Err.ensures.no_fault (λ e. other (fault_told c.in-Err.stop _ c.refuse_source.result e c.refuse_source.ensures.ends))
+    c.in-Err.ensures.no_fault (λ e. other (fault_reported c.in-Err.stop _ c.refuse_source.result e c.refuse_source.ensures.ends))

@@ -2,5 +2,5 @@ use Rattle.std.proofs.Common.{◌≡◌, drop}
 use Rattle.machine_defs.specs.Entries.{borrow_start}
 use Rattle.object_tracker.proofs.listing.borrow_start.Given as goal
 
-abbrev pub invariant-loop-place : goal.invariant-loop-place
-invariant-loop-place l = borrow_start l.wanted (drop l.place l.entries) ≡ borrow_start l.wanted l.entries
+abbrev pub invariant-loop-index : goal.invariant-loop-index
+invariant-loop-index l = borrow_start l.query (drop l.index l.entries) ≡ borrow_start l.query l.entries

@@ -2,10 +2,10 @@ use Rattle.std.proofs.Common.{◌≡◌, ◌-◌, ◌≤◌, ◌++◌, length, t
 use Rattle.object_tracker.specs.Tracked.{fits}
 use Rattle.object_tracker.proofs.listing.end_all.Given as goal
 
-abbrev pub invariant-loop-place : goal.invariant-loop-place
-invariant-loop-place l =
-    (l.place ≤ length l.entries)
-    × (take l.place l.entries ++ filter (λ e. not (fits l.wanted e)) (drop l.place l.entries) ≡ filter (λ e. not (fits l.wanted e)) l.initial.entries)
+abbrev pub invariant-loop-index : goal.invariant-loop-index
+invariant-loop-index l =
+    (l.index ≤ length l.entries)
+    × (take l.index l.entries ++ filter (λ e. not (fits l.query e)) (drop l.index l.entries) ≡ filter (λ e. not (fits l.query e)) l.initial.entries)
 
-abbrev pub decreases-loop-place : goal.decreases-loop-place
-decreases-loop-place l = length l.entries - l.place
+abbrev pub decreases-loop-index : goal.decreases-loop-index
+decreases-loop-index l = length l.entries - l.index

@@ -5,5 +5,5 @@ use Rattle.object_tracker.proofs.listing.end_at.Goals as goal
 
 pub returns-then-fits-clause-same : goal.returns-then-fits-clause-same
 returns-then-fits-clause-same c =
-    rw c.remove.ensures (end_one (λ e. not (fits c.args.wanted e)) c.args.entries.now c.args.place c.get.result c.requires.place
+    rw c.remove.ensures (end_one (λ e. not (fits c.args.query e)) c.args.entries.now c.args.index c.get.result c.requires.index
     (rw c.get.ensures (ap not (sym c.fits.ensures ∙ c.if-fits.true))))

@@ -2,5 +2,5 @@ use Rattle.std.proofs.Common.{◌≡◌, take}
 use Rattle.machine_defs.specs.Entries.{released}
 use Rattle.object_tracker.proofs.listing.held.Given as goal
 
-abbrev pub invariant-loop-place : goal.invariant-loop-place
-invariant-loop-place l = l.made ≡ released (take l.place l.entries)
+abbrev pub invariant-loop-index : goal.invariant-loop-index
+invariant-loop-index l = l.made ≡ released (take l.index l.entries)

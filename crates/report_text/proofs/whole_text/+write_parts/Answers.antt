@@ -9,13 +9,13 @@ returns-in_err-write_part g t c =
     rw (
       q.1,
       q.2,
-      rows_first c.args.place _ _ _ _ _ _ _ _ _ _ _ _ c.in-Some.ensures.cases.0 c.in-Some-split_first.ensures.cases.0
+      rows_first c.args.number _ _ _ _ _ _ _ _ _ _ _ _ c.in-Some.ensures.cases.0 c.in-Some-split_first.ensures.cases.0
           c.in-Some-split_first-2.ensures.cases.0 c.in-Some-split_first-3.ensures.cases.0,
     )
     (cut _ (rw c.as_slice.ensures at c.in_err-write_part.ensures))
 
 pub returns : goal.returns
 returns g t c =
-    rw (rows_first c.args.place _ _ _ _ _ _ _ _ _ _ _ _ c.in-Some.ensures.cases.0 c.in-Some-split_first.ensures.cases.0
+    rw (rows_first c.args.number _ _ _ _ _ _ _ _ _ _ _ _ c.in-Some.ensures.cases.0 c.in-Some-split_first.ensures.cases.0
     c.in-Some-split_first-2.ensures.cases.0 c.in-Some-split_first-3.ensures.cases.0)
     (both (rw c.as_slice.ensures at c.in_ok-write_part.ensures) c.write_parts.ensures)

@@ -1,5 +1,5 @@
 use Rattle.std.proofs.Common.{◌≡◌, ◌-◌, ◌++◌}
-use Rattle.report_text.specs.Whole.{objects_from}
+use Rattle.run_results.specs.Reports.{objects_from}
 use Rattle.run_ends.specs.Ends.{objects_in}
 use Rattle.run_ends.proofs.ends.objects_of.Given as goal
 

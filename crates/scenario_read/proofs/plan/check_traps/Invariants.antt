@@ -4,6 +4,6 @@ use Rattle.scenario_read.proofs.plan.check_traps.Given as goal
 
 abbrev pub invariant-loop-part : goal.invariant-loop-part
 invariant-loop-part l = record {
-  counted : l.place ≡ l.part-index;
-  checked : check_traps l.struck l.more l.place (drop l.part-index l.parts) ≡ check_traps l.struck l.more 0 l.parts;
+  counted : l.index ≡ l.part-index;
+  checked : check_traps l.struck l.more l.index (drop l.part-index l.parts) ≡ check_traps l.struck l.more 0 l.parts;
 }

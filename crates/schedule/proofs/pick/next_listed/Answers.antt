@@ -4,4 +4,4 @@ use Rattle.schedule.proofs.pick.next_listed.Goals as goal
 
 pub returns-in-Some : goal.returns-in-Some
 returns-in-Some c =
-    c.loop-i.invariant ∙ found_pick _ _ _ _ c.loop-i-test.true (sym c.place_of.ensures.place ∙ c.in-Some.is)
+    c.loop-i.invariant ∙ found_pick _ _ _ _ c.loop-i-test.true (sym c.position_of.ensures.index ∙ c.in-Some.is)

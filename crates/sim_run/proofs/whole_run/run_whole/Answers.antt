@@ -1,6 +1,6 @@
 use Rattle.std.proofs.Common.{map}
 use Rattle.request_taps.specs.Bus.{seen}
-use Rattle.run_ends.proofs.Told.{on_err}
+use Rattle.run_ends.proofs.Heard.{on_err}
 use Rattle.sim_run.proofs.Ending.{has_begun, has_ended, has_run_on, has_stopped, has_to_end, none_heard}
 use Rattle.sim_run.proofs.whole_run.run_whole.Goals as goal
 

@@ -1,6 +1,6 @@
 use Rattle.std.proofs.Common.{◌≡◌, ◌∙◌, arith, length, map, refl, sym}
 use Rattle.request_taps.specs.Bus.{seen}
-use Rattle.run_ends.specs.Journals.{with_part}
+use Rattle.run_results.specs.Journals.{with_part}
 use Rattle.threaded_run.proofs.Heard.{all_heard, event_heard}
 use Rattle.threaded_run.proofs.publishing.publish.Goals as goal
 

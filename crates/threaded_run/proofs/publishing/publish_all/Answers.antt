@@ -1,6 +1,6 @@
 use Rattle.std.proofs.Common.{◌≡◌, ◌∙◌, ap, arith, length, map, refl, sym}
-use Rattle.request_taps.specs.Bus.{seen, told_all}
-use Rattle.run_ends.specs.Journals.{events_in, with_part}
+use Rattle.request_taps.specs.Bus.{seen, after_hearing_all}
+use Rattle.run_results.specs.Journals.{events_in, with_part}
 use Rattle.threaded_run.specs.Threaded.{in_parts}
 use Rattle.threaded_run.proofs.Heard.{all_heard, journal_heard}
 use Rattle.threaded_run.proofs.publishing.publish_all.Goals as goal
@@ -10,7 +10,7 @@ loop-part-preserved g c =
     journal_heard c.loop-part.part c.args.journals.now c.index-journals-part.result
     (map (seen g.L.Listener.listening) c.loop-part.taps) (map (seen g.L.Listener.listening) c.publish.new.taps) (map (seen g.L.Listener.listening) c.args.taps.now)
     c.loop-part-test.true c.index-journals-part.is
-    (c.publish.ensures ∙ ap (λ events. told_all (with_part c.loop-part.part events) (map (seen g.L.Listener.listening) c.loop-part.taps)) c.as_slice.ensures)
+    (c.publish.ensures ∙ ap (λ events. after_hearing_all (with_part c.loop-part.part events) (map (seen g.L.Listener.listening) c.loop-part.taps)) c.as_slice.ensures)
     c.loop-part.invariant
 
 pub returns : goal.returns

@@ -1,6 +1,6 @@
 use Rattle.std.proofs.Common.{◌≤◌, length, map, rules, subst, sym}
 use Rattle.request_taps.specs.Bus.{seen}
-use Rattle.run_ends.proofs.Told.{on_err}
+use Rattle.run_ends.proofs.Heard.{on_err}
 use Rattle.threaded_run.proofs.Answered.{few_journals, threaded_answered}
 use Rattle.threaded_run.proofs.Heard.{heard_all, heard_nothing}
 use Rattle.threaded_run.proofs.running.run_threads.Goals as goal

@@ -34,7 +34,7 @@ run_workers-worked-requires-clause-arrivals g c κs l =
     subst (AreArrivals (map desk_spec c.as_slice-3.result.now)) (sym frames)
     (arrivals_fit c.args.scenario.now.parts (map desk_spec c.as_slice-3.result.now) c.requires.parts specs)
 
--- the seats are given back as they stand in the slice that was lent
+-- the seats that are returned are those in the slice that was lent
 seats_back : (g : _) (c : goal.In-Ok g) → take c.in_ok-opened.opened.seats.len (c.run_workers-worked.new.seats ++ drop (length c.run_workers-worked.new.seats) c.in_ok-opened.opened.seats.items)
     ≡ c.run_workers-worked.new.seats
 seats_back g c =
@@ -76,8 +76,8 @@ gather-requires-clause-worked g c =
     (seats_back g c)
     frames long (seats_new g c) c.in-Ok.ensures.accounts c.in-Ok.ensures.ends.2 c.in-Ok.ensures.ends.0
 
-pub want_of_memory-requires : goal.want_of_memory-requires
-want_of_memory-requires g c =
+pub out_of_memory-requires : goal.out_of_memory-requires
+out_of_memory-requires g c =
     let specs : map desk_spec c.as_slice-3.result.now ≡ c.args.scenario.now.parts =
     ap (map desk_spec) c.as_slice-3.ensures.value ∙ c.in_ok-opened.ensures.specs ∙ c.as_slice-2.ensures in
     let frames : c.as_slice-4.result.now ≡ map (λ (s : PartSpec). s.arrivals) c.args.scenario.now.parts =

@@ -7,7 +7,7 @@ use Rattle.contract_monitor.proofs.known.Known.wrong_act.Given as goal
 
 abbrev pub invariant-loop-act : goal.invariant-loop-act
 invariant-loop-act l = record {
-  counted : l.place ≡ l.act-index;
+  counted : l.index ≡ l.act-index;
   kept : l.self ≡ fold (kept_act l.call) l.initial.self (take l.act-index l.acts);
   quiet : wrong_among l.call l.initial.self.known (map acts (take l.act-index l.acts)) ≡ None;
 }

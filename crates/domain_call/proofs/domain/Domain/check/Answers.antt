@@ -1,10 +1,10 @@
 use Rattle.std.proofs.Common.{ap}
-use Rattle.domain_call.specs.Standing.{Standing}
+use Rattle.domain_call.specs.DomainView.{DomainView}
 use Rattle.domain_call.proofs.Contexts.{checked_same}
 use Rattle.domain_call.proofs.domain.Domain.check.Goals as goal
 
 pub returns-clause-checked : goal.returns-clause-checked
 returns-clause-checked c =
     checked_same _ c.args.number _ _ _ _ _ _ _ _ c.check_service.ensures.checked c.arguments-first.ensures.first c.arguments-first.ensures.second
-    (ap (λ (s : Standing). s.class) c.self.view_is)
-    (ap (λ (s : Standing). s.state.entries) c.self.view_is)
+    (ap (λ (s : DomainView). s.class) c.self.view_is)
+    (ap (λ (s : DomainView). s.state.entries) c.self.view_is)

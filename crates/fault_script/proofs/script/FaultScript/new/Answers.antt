@@ -1,6 +1,6 @@
 use Rattle.std.proofs.Common.{rules}
 use Rattle.std.proofs.lemmas.List.Sorted.{IsNonDecreasingBy-from_sort_by_key, answers_always}
-use Rattle.fault_script.proofs.Places.{sorted_twice, same_faults}
+use Rattle.fault_script.proofs.Points.{sorted_twice, same_faults}
 use Rattle.fault_script.proofs.script.FaultScript.new.Goals as goal
 
 pub invariant_of-result : goal.invariant_of-result

@@ -1,4 +1,4 @@
--- What was written is longer by what was taken.
+-- A write adds to what was written exactly the bytes that were taken.
 use Rattle.std.proofs.Common.{◌≡◌, ◌+◌, ◌<◌, ◌++◌, ◌∷◌, [], false, is_some, length, take, get_or, ap, sym, arith}
 use Rattle.journal_audit.proofs.Compared.{held_more, written_more, written_other}
 use Rattle.journal_audit.proofs.comparing.ComparingSink.write.Goals as goal

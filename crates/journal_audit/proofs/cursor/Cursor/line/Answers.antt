@@ -1,8 +1,8 @@
--- The bytes up to the first line feed are the next line; without one there is none.
+-- The bytes up to the first line feed are the next line; without a line feed there is none.
 use Rattle.std.proofs.Common.{◌+◌, sym, subst, ◌∙◌, take}
 use Rattle.journal_audit.proofs.Placing.{line_found, no_line_found}
 use Rattle.journal_audit.proofs.cursor.Cursor.line.Goals as goal
-use Rattle.journal_audit.specs.Placed.{HasNoLine, IsNextLine}
+use Rattle.journal_audit.specs.Position.{HasNoLine, IsNextLine}
 
 pub returns-in-Some-clause-ok : goal.returns-in-Some-clause-ok
 returns-in-Some-clause-ok c =

@@ -1,12 +1,12 @@
--- What was compared is the text whole, or its front and a byte in the place of another.
+-- What was compared is the whole text, or a prefix of it and another byte.
 use Rattle.std.proofs.Common.{◌≡◌, ℕ, Option, None, Some, Err, true, false, List, refl, sym, ◌∙◌, ap, subst, is_some}
 use Rattle.report_text.specs.Writing.{Wrote}
 use Rattle.report_text.specs.declared.write.WriteStop.TheVariants as stops
 use Rattle.journal_audit.proofs.Taken.{Written, departs_taken, follows_taken, written_kept}
 use Rattle.journal_audit.proofs.cursor.Cursor.settle.Goals as goal
 use Rattle.journal_audit.proofs.cursor.Cursor.settle.Goals.{After-is_some}
-use Rattle.journal_audit.specs.Comparisons.{held_in, untouched}
-use Rattle.journal_audit.specs.Placed.{Departs, Follows, past}
+use Rattle.journal_audit.specs.Comparisons.{change_in, untouched}
+use Rattle.journal_audit.specs.Position.{Departs, Follows, past}
 
 enough : (c : After-is_some) → c.args.written ≡ Err stops.NoMemory → ⊥
 enough c e = let same = rw e at c.eq.ensures in cc (same, c.if-eq.false)
@@ -20,7 +20,7 @@ some_wrong None h = absurd (cc)
 some_wrong (Some byte) h = (byte, refl)
 
 written : (c : After-is_some) (text : List ℕ)
-    → Wrote (Some (held_in (untouched c.args.self.now.rest))) (Some (held_in c.args.compared.now)) 0 c.args.compared.now.faults c.args.written text
+    → Wrote (change_in (untouched c.args.self.now.rest) c.args.compared.now) c.args.written text
     → Written c.args.compared.now c.args.written text
 written c text wrote = record { enough = enough c; faults = c.wrong.ensures.faults; wrote = written_kept c.args.compared.now c.args.self.now.rest c.args.written text (record { is = wrote }) }
 

@@ -15,7 +15,7 @@ invariant_of-self c =
     let many : length new ≡ length old = omega (arith, c.hear_all.auto.threads, ap length same) in
     let few : length new ≤ 16 = omega (arith, c.self.invariant.2) in
     rw (put_back i.threads.len new old (omega (arith, i.threads.ok.0)) many)
-    (c.self.invariant.0, parts_noted i.place old given new same c.self.invariant.1 c.hear_all.ensures.parts, few)
+    (c.self.invariant.0, parts_noted i.index old given new same c.self.invariant.1 c.hear_all.ensures.parts, few)
 
 pub returns : goal.returns
 returns c =
@@ -26,9 +26,9 @@ returns c =
     let same : given ≡ old = c.deref_mut.ensures.value in
     let many : length new ≡ length old = omega (arith, c.hear_all.auto.threads, ap length same) in
     let left = put_back i.threads.len new old (omega (arith, i.threads.ok.0)) many in
-    let s : Section = record { place = i.place; spec = i.spec.now; seat = record { run = i.part; coming = i.coming.now }; threads = map state_in old } in
+    let s : Section = record { index = i.index; spec = i.spec.now; seat = record { run = i.part; coming = i.coming.now }; threads = map state_in old } in
     let t = with_threads s (map state_in (take i.threads.len (new ++ drop (length new) old))) in
     let w = c.self.view_is in
     rw (sym w)
     (note_newest c.hear_all.result s t (map state_in new) c.newest.result.now c.newest.ensures (ap (λ (ts : List OnPart). with_threads s (map state_in ts)) left)
-    (threads_noted c.hear_all.result i.place c.newest.result.now old given new same c.self.invariant.1 c.hear_all.ensures.states))
+    (threads_noted c.hear_all.result i.index c.newest.result.now old given new same c.self.invariant.1 c.hear_all.ensures.states))

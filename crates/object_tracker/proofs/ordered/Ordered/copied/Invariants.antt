@@ -1,5 +1,5 @@
 use Rattle.std.proofs.Common.{◌≡◌, take}
 use Rattle.object_tracker.proofs.ordered.Ordered.copied.Given as goal
 
-abbrev pub invariant-loop-place : goal.invariant-loop-place
-invariant-loop-place l = l.made ≡ take l.place l.self
+abbrev pub invariant-loop-index : goal.invariant-loop-index
+invariant-loop-index l = l.made ≡ take l.index l.self

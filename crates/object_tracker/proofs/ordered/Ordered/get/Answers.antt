@@ -9,7 +9,7 @@ index-requires-2 c =
     let p = c.self.inside in
     let keys = p.keys.items in
     let long : length keys ≡ length c.args.self.now = rw (← c.self.view_is) (sym (length-map keys (entry_at p.slab))) in
-    rw c.index.ensures (key_at p.slab keys c.args.place _ (omega (arith, long, c.requires)) c.self.invariant.keyed)
+    rw c.index.ensures (key_at p.slab keys c.args.index _ (omega (arith, long, c.requires)) c.self.invariant.keyed)
 
 pub returns : goal.returns
 returns c =
@@ -17,4 +17,4 @@ returns c =
     let keys = p.keys.items in
     let long : length keys ≡ length c.args.self.now = rw (← c.self.view_is) (sym (length-map keys (entry_at p.slab))) in
     let here = rw c.index.ensures at c.index-2.ensures in
-    rw (← c.self.view_is) (entry_there p.slab keys c.args.place _ _ (omega (arith, long, c.requires)) here)
+    rw (← c.self.view_is) (entry_there p.slab keys c.args.index _ _ (omega (arith, long, c.requires)) here)

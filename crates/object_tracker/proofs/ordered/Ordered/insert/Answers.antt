@@ -10,9 +10,9 @@ invariant_of-self c =
     let keys = p.keys.items in
     let long : length keys ≡ length c.args.self.now = rw (← c.self.view_is) (sym (length-map keys (entry_at p.slab))) in
     let items = rw c.unwrap.ensures at c.insert.ensures.items in
-    let within : c.args.place ≤ length keys = omega (arith, long, c.requires.place) in
+    let within : c.args.index ≤ length keys = omega (arith, long, c.requires.index) in
     let roomy : 82 ≤ vec_capacity c.insert.new.self = omega (arith, c.insert.ensures.capacity, c.self.invariant.key_room) in
-    let all = ordered_insert p.slab c.insert_reserved-key.new.self keys c.args.place c.insert_reserved-key.result _ _ c.args.entry within c.self.invariant
+    let all = ordered_insert p.slab c.insert_reserved-key.new.self keys c.args.index c.insert_reserved-key.result _ _ c.args.entry within c.self.invariant
     c.insert_reserved-key.ensures.was_vacant c.insert_reserved-key.ensures.updates c.insert_reserved-key.ensures.len c.insert_reserved-key.ensures.capacity roomy in
     rw items all.0
 
@@ -22,8 +22,8 @@ returns c =
     let keys = p.keys.items in
     let long : length keys ≡ length c.args.self.now = rw (← c.self.view_is) (sym (length-map keys (entry_at p.slab))) in
     let items = rw c.unwrap.ensures at c.insert.ensures.items in
-    let within : c.args.place ≤ length keys = omega (arith, long, c.requires.place) in
+    let within : c.args.index ≤ length keys = omega (arith, long, c.requires.index) in
     let roomy : 82 ≤ vec_capacity c.insert.new.self = omega (arith, c.insert.ensures.capacity, c.self.invariant.key_room) in
-    let all = ordered_insert p.slab c.insert_reserved-key.new.self keys c.args.place c.insert_reserved-key.result _ _ c.args.entry within c.self.invariant
+    let all = ordered_insert p.slab c.insert_reserved-key.new.self keys c.args.index c.insert_reserved-key.result _ _ c.args.entry within c.self.invariant
     c.insert_reserved-key.ensures.was_vacant c.insert_reserved-key.ensures.updates c.insert_reserved-key.ensures.len c.insert_reserved-key.ensures.capacity roomy in
     rw (← c.self.view_is) (ap (map (entry_at c.insert_reserved-key.new.self)) items ∙ all.1)

@@ -1,6 +1,6 @@
-use Rattle.object_tracker.specs.declared.wanted.Wanted.TheVariants as wanted
+use Rattle.object_tracker.specs.declared.query.Query.TheVariants as query
 use Rattle.object_tracker.proofs.Kept.{kept_ended, spares_buffer}
 use Rattle.object_tracker.proofs.tracker.Tracker.end_buffer.Goals as goal
 
 pub invariant_of-self : goal.invariant_of-self
-invariant_of-self c = rw c.end_all.ensures (kept_ended c.self.inside.heap_start (wanted.Buffer c.args.context) c.self.inside.entries c.self.invariant (spares_buffer c.args.context))
+invariant_of-self c = rw c.end_all.ensures (kept_ended c.self.inside.heap_start (query.Buffer c.args.context) c.self.inside.entries c.self.invariant (spares_buffer c.args.context))

@@ -1,6 +1,6 @@
-use Rattle.object_tracker.specs.declared.wanted.Wanted.TheVariants as wanted
+use Rattle.object_tracker.specs.declared.query.Query.TheVariants as query
 use Rattle.object_tracker.proofs.Kept.{kept_ended, spares_heap}
 use Rattle.object_tracker.proofs.tracker.Tracker.free.Goals as goal
 
 pub invariant_of-self : goal.invariant_of-self
-invariant_of-self c = rw c.end_all.ensures (kept_ended c.self.inside.heap_start (wanted.Heap c.args.address) c.self.inside.entries c.self.invariant (spares_heap c.args.address))
+invariant_of-self c = rw c.end_all.ensures (kept_ended c.self.inside.heap_start (query.Heap c.args.address) c.self.inside.entries c.self.invariant (spares_heap c.args.address))

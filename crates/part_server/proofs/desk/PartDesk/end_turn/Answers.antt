@@ -1,4 +1,4 @@
-use Rattle.part_server.proofs.Entries.{tally_view}
+use Rattle.part_server.proofs.Entries.{made_is_seen_view}
 use Rattle.part_server.proofs.Turning.{added_entry, added_seen, added_stamps, added_view, listed_short, same_entries, same_seen, same_stamps, same_view}
 use Rattle.part_server.proofs.desk.PartDesk.end_turn.Goals as goal
 
@@ -23,7 +23,7 @@ returns-then-is_added-clause-stamps c =
     added_stamps c.args.seat.now.me.0 c.commit_and_give.new.seat.me.0 c.args.dated c.requires.stamped c.args.is_added c.if-is_added.true c.requires.grown c.commit_and_give.ensures.view
 
 pub returns-then-is_added-clause-made : goal.returns-then-is_added-clause-made
-returns-then-is_added-clause-made c = tally_view c.commit_and_give.new.seat.me.0 c.commit_and_give.ensures.made
+returns-then-is_added-clause-made c = made_is_seen_view c.commit_and_give.new.seat.me.0 c.commit_and_give.ensures.made
 
 pub give_back-requires-clause-same : goal.give_back-requires-clause-same
 give_back-requires-clause-same c l =
@@ -42,4 +42,4 @@ returns-else-is_added-clause-stamps c =
     same_stamps c.args.seat.now.me.0 c.give_back.new.seat.me.0 c.args.dated c.requires.stamped c.args.is_added c.if-is_added.false c.requires.grown c.give_back.ensures.view
 
 pub returns-else-is_added-clause-made : goal.returns-else-is_added-clause-made
-returns-else-is_added-clause-made c = tally_view c.give_back.new.seat.me.0 c.give_back.ensures.made
+returns-else-is_added-clause-made c = made_is_seen_view c.give_back.new.seat.me.0 c.give_back.ensures.made

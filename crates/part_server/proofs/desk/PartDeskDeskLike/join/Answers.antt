@@ -5,7 +5,7 @@ use Rattle.part_server.specs.Desk.{desk_spec}
 use Rattle.part_server.specs.Entries.{journal_view, stamps_of, TurnView}
 use Rattle.part_server.specs.Turns.{SeatValue, timed_view}
 use Rattle.part_server.proofs.Alone.{accounts_of}
-use Rattle.part_server.proofs.Entries.{joined_one, tally_view}
+use Rattle.part_server.proofs.Entries.{joined_one, made_is_seen_view}
 use Rattle.part_server.proofs.Joining.{joined_seen, joined_views, of_views}
 use Rattle.part_server.proofs.Ticking.{joined_clocked, joined_clocks}
 use Rattle.part_server.proofs.desk.PartDeskDeskLike.join.Goals as goal
@@ -19,7 +19,7 @@ invariant_of-seat c = (
       c.join.ensures.seat.1 c.seat.invariant.1 c.other.invariant.1,
   ap (λ (v : TurnView). v.start) c.join.ensures.view ∙ c.seat.invariant.2,
   accounts_of (journal_view c.join.new.seat.me.0) (stamps_of c.join.new.seat.me.0.seen) c.raise.new.self
-      (ap (λ (v : TurnView). v.start) c.join.ensures.view ∙ c.seat.invariant.2) (tally_view c.join.new.seat.me.0 c.join.ensures.made),
+      (ap (λ (v : TurnView). v.start) c.join.ensures.view ∙ c.seat.invariant.2) (made_is_seen_view c.join.new.seat.me.0 c.join.ensures.made),
   joined_clocked c.seat.inside.seat.me.0 c.other.inside.seat.me.0 c.join.new.seat.me.0 c.seat.inside.clock c.other.inside.clock c.raise.new.self (joined_one c.seat.inside.seat.me.0 c.other.inside.seat.me.0 c.join.new.seat.me.0 c.join.ensures.view) c.raise.ensures
       c.seat.invariant.4 c.other.invariant.4,
 )
@@ -33,7 +33,7 @@ returns-clause-joins c =
 pub returns-clause-accounts : goal.returns-clause-accounts
 returns-clause-accounts c =
     accounts_of (journal_view c.join.new.seat.me.0) (stamps_of c.join.new.seat.me.0.seen) c.raise.new.self
-    (ap (λ (v : TurnView). v.start) c.join.ensures.view ∙ c.seat.invariant.2) (tally_view c.join.new.seat.me.0 c.join.ensures.made)
+    (ap (λ (v : TurnView). v.start) c.join.ensures.view ∙ c.seat.invariant.2) (made_is_seen_view c.join.new.seat.me.0 c.join.ensures.made)
 
 pub returns-clause-joins_clocks : goal.returns-clause-joins_clocks
 returns-clause-joins_clocks c =

@@ -1,6 +1,0 @@
-use Rattle.std.proofs.Common.{◌≡◌, ◌+◌, drop}
-use Rattle.campaign_rows.specs.Sums.{lost_in}
-use Rattle.campaign_rows.proofs.row.count_lost.Given as goal
-
-abbrev pub invariant-loop-part : goal.invariant-loop-part
-invariant-loop-part l = l.count + lost_in (drop l.part-index l.parts) ≡ lost_in l.parts

@@ -1,6 +1,0 @@
-use Rattle.std.proofs.Common.{◌≡◌, fold, take}
-use Rattle.fault_places.specs.Bursts.{up_to_own}
-use Rattle.fault_places.proofs.places.turns_made.Given as goal
-
-abbrev pub invariant-loop-fault : goal.invariant-loop-fault
-invariant-loop-fault l = l.turns ≡ fold (up_to_own l.burst) l.count (take l.fault-index l.faults)

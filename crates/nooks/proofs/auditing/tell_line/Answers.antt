@@ -1,6 +1,0 @@
-use Rattle.std.proofs.Common.{◌∙◌}
-use Rattle.nooks.proofs.Audits.{said_same}
-use Rattle.nooks.proofs.auditing.tell_line.Goals as goal
-
-pub returns-in-Ok-clause-ends : goal.returns-in-Ok-clause-ends
-returns-in-Ok-clause-ends g c = said_same _ _ _ c.finish.result _ (c.as_bytes.ensures ∙ c.in-Ok.ensures) c.finish.ensures.ends

@@ -1,7 +1,0 @@
-use Rattle.std.proofs.Common.{sym, ◌∙◌}
-use Rattle.report_text.proofs.WholeLemmas.{gone_past}
-use Rattle.report_text.proofs.whole_report.is_gone.Goals as goal
-
-pub returns-then-parts-i : goal.returns-then-parts-i
-returns-then-parts-i c =
-    sym (c.loop-i.invariant ∙ gone_past c.args.specs.now c.args.parts.now c.loop-i.i c.if-parts-i.true)

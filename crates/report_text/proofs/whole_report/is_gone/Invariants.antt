@@ -1,6 +1,0 @@
-use Rattle.std.proofs.Common.{◌≡◌, drop}
-use Rattle.report_text.specs.Whole.{is_gone}
-use Rattle.report_text.proofs.whole_report.is_gone.Given as goal
-
-abbrev pub invariant-loop-i : goal.invariant-loop-i
-invariant-loop-i l = is_gone l.specs l.parts ≡ is_gone (drop l.i l.specs) (drop l.i l.parts)

@@ -1,9 +1,0 @@
-use Rattle.std.proofs.Common.{arith}
-use Rattle.request_taps.specs.Bus.{seen, told}
-use Rattle.request_taps.proofs.Taps.{view_over_more}
-use Rattle.request_taps.proofs.bus.tell.Goals as goal
-
-pub loop-tap-preserved : goal.loop-tap-preserved
-loop-tap-preserved g c =
-    view_over_more (seen g.L.Listener.listening) (told c.args.part c.args.event.now) c.args.taps.now c.loop-tap.tap-items
-    c.loop-tap.tap-index c.tap-item.result c.hear.new.self (omega arith) c.loop-tap.invariant c.hear.ensures

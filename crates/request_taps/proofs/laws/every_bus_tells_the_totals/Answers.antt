@@ -1,5 +1,0 @@
-use Rattle.request_taps.proofs.Totals.{all_totals}
-use Rattle.request_taps.proofs.laws.every_bus_tells_the_totals.Goals as goal
-
-pub returns : goal.returns
-returns c = all_totals

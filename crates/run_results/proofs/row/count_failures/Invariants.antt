@@ -1,0 +1,6 @@
+use Rattle.std.proofs.Common.{◌≡◌, ◌+◌, drop}
+use Rattle.run_results.specs.Reports.{failures_in}
+use Rattle.run_results.proofs.row.count_failures.Given as goal
+
+abbrev pub invariant-loop-part : goal.invariant-loop-part
+invariant-loop-part l = l.count + failures_in (drop l.part-index l.parts) ≡ failures_in l.parts

@@ -1,0 +1,4 @@
+pub mod Journals
+pub mod Reports
+pub mod Statuses
+pub mod Sums

@@ -1,6 +1,7 @@
--- Every subcommand that never waits has an answer.
-use Rattle.std.proofs.Common.{◌≡◌, ℕ, ◌≤◌, nat_lt, Bool, true, false, List, [], ◌++◌, ◌⊎◌, inl, inr, All, is_some, length, map, IfOk, Option, Some, None, Result, Ok, Err, refl, sym, subst, true≢false}
+-- What a subcommand that never waits does, or an input error: there is an answer of each kind.
+use Rattle.std.proofs.Common.{◌≡◌, ℕ, ◌≤◌, nat_lt, Bool, true, false, List, [], ◌++◌, ◌⊎◌, inl, inr, All, is_some, length, map, IfOk, Option, Some, None, Result, Ok, Err, refl, sym, subst}
 use Rattle.std.proofs.lemmas.Bool.{ltb-false, ltb-true}
+use Rattle.answer_laws.proofs.Answered.{HasAnswer, IsDone, IsFaultOr, answer_by, either_exists, read_exists}
 use Rattle.answer_laws.proofs.Explorable.{exploration_exists}
 use Rattle.asm_defs.specs.Disassembler.{disassembled}
 use Rattle.asm_defs.specs.ImageText.{image_text}
@@ -8,8 +9,7 @@ use Rattle.audit_input.proofs.Once.{hands_or_not}
 use Rattle.audit_input.specs.Handed.{Hands}
 use Rattle.burst_trace.specs.Text.{trace_text}
 use Rattle.campaign_defs.specs.TableText.{plan_table_text}
-use Rattle.command_forms.specs.Forms.{AskAlone, Asks, IsForm, is_alone, is_reading, limit_of}
-use Rattle.command_forms.specs.declared.words.Form.{Form}
+use Rattle.command_forms.specs.Forms.{limit_of}
 use Rattle.command_forms.specs.declared.words.Form.TheVariants as form
 use Rattle.explore_defs.specs.Explored.{IsExplored, all_numbers}
 use Rattle.guard_defs.specs.Guard.{HasRoom}
@@ -23,7 +23,6 @@ use Rattle.input_defs.specs.ScenarioReading.{scenario_from}
 use Rattle.input_defs.specs.declared.input.InputFault.TheVariants as fault
 use Rattle.input_defs.specs.declared.input.Refusal.{Refusal}
 use Rattle.nook_data.specs.Valid.{IsValidScenario}
-use Rattle.nook_data.specs.declared.scenario.Image.{Image}
 use Rattle.nook_data.specs.declared.scenario.Scenario.{Scenario}
 use Rattle.nook_io.specs.Listening.{Listening, tap_result}
 use Rattle.nooks.proofs.Audits.{sound_report}
@@ -33,13 +32,10 @@ use Rattle.nooks.proofs.Guards.{guard_reported, guardable_parts}
 use Rattle.nooks.proofs.Reports.{run_status}
 use Rattle.nooks.proofs.Safety.{all_safe}
 use Rattle.nooks.proofs.Traces.{is_trace_of}
-use Rattle.nooks.specs.Answers.{Answers, AnswersInput, IsFaultOf, IsGuardReport, IsRefusalLine, IsReported, IsScheduled, IsSummary, IsWhole, Left}
-use Rattle.nooks.specs.Answers.{IsExploration, IsExploredStatus, listing_from, verdict_status}
-use Rattle.nooks.specs.Endings.{AnswersBytes, input_for}
+use Rattle.nooks.specs.Answers.{IsAsmOf, IsAuditOf, IsExploration, IsExploredOf, IsExploredStatus, IsFaultOf, IsGuardOf, IsGuardReport, IsGuardedOf, IsImageOf, IsRefusalLine, IsReportOf}
+use Rattle.nooks.specs.Answers.{IsReported, IsScheduled, IsSummary, IsTableOf, IsTraceOf, IsWhole, Left, listing_from, verdict_status}
 use Rattle.nooks.specs.Guardable.{guardable_from}
-use Rattle.nooks.specs.Streams.{Input, TooLong, Whole}
-use Rattle.nooks.specs.Texts.{at_root, bad_header_text, help_text, no_such_burst_text, usage_text, verdict_text, version_text}
-use Rattle.nooks.specs.declared.program.Status.{Status}
+use Rattle.nooks.specs.Texts.{at_root, bad_header_text, no_such_burst_text, verdict_text}
 use Rattle.nooks.specs.declared.program.Status.TheVariants as ended
 use Rattle.order_laws.proofs.ReadOnce.{finds_exists}
 use Rattle.plan_defs.specs.Plans.{IsValidPlan}
@@ -54,13 +50,6 @@ use Rattle.scenario_gen.proofs.Limits.{generated_is_valid}
 use Rattle.scenario_write.specs.ScenarioText.{scenario_line}
 use Rattle.sim_run.proofs.Ending.{runs_scheduled, scheduled_ends}
 use Rattle.sim_run.specs.Published.{published}
-
--- a text and a status
-abbrev HasAnswer : (List ℕ → Status → Type 0) → Type 0
-HasAnswer Answer = (text : List ℕ) × ((status : Status) × Answer text status)
-
-answer_by : (A B : List ℕ → Status → Type 0) → ((text : List ℕ) (status : Status) → A text status → B text status) → HasAnswer A → HasAnswer B
-answer_by A B more a = (a.0, (a.1.0, more a.0 a.1.0 a.1.1))
 
 -- ---- runs
 
@@ -101,7 +90,7 @@ report_exists scenario hearing valid =
       ),
     )
 
-summary_exists : (number : ℕ) → number ≤ 256 → HasAnswer (IsSummary number)
+pub summary_exists : (number : ℕ) → number ≤ 256 → HasAnswer (IsSummary number)
 summary_exists number most =
     let valid : IsValidScenario (generated number) = generated_is_valid number most in
     let end = scheduled_ends (generated number) valid in
@@ -121,52 +110,47 @@ summary_exists number most =
 
 -- ---- inputs
 
--- an input that is refused
-refused_by : (asked : Form) (bytes : List ℕ) (hearing : List Listening) (T : Type 0) (r : Result T Refusal) (refusal : Refusal) → r ≡ Err refusal
-    → ((text : List ℕ) → IsRefusalLine r text → IsFaultOf asked bytes text) → HasAnswer (AnswersInput asked (Whole bytes) hearing)
-refused_by asked bytes hearing T r refusal is more =
-    (fault_line refusal, (ended.BadInput, inl (more (fault_line refusal) (record { refusal = refusal; is = is; text_is = refl }), refl)))
+scenario_valid : (bytes : List ℕ) (scenario : Scenario) → scenario_from bytes ≡ Ok scenario → IsValidScenario scenario
+scenario_valid bytes scenario is = subst (λ r. IfOk r IsValidScenario) is (scenario_is_valid bytes)
 
-run_exists : (bytes : List ℕ) (hearing : List Listening) (r : Result Scenario Refusal) → scenario_from bytes ≡ r → IfOk r IsValidScenario
-    → HasAnswer (AnswersInput form.Run (Whole bytes) hearing)
-run_exists bytes hearing (Ok scenario) is valid =
-    answer_by (IsReported form.Run scenario hearing) (AnswersInput form.Run (Whole bytes) hearing) (λ text status reported. inr (record { scenario = scenario; reading = is; reported = reported }))
-    (report_exists scenario hearing valid)
-run_exists bytes hearing (Err refusal) is valid =
-    refused_by form.Run bytes hearing Scenario (scenario_from bytes) refusal is (λ text line. line)
+pub run_exists : (bytes : List ℕ) (hearing : List Listening)
+    → HasAnswer (IsFaultOr (IsRefusalLine (scenario_from bytes)) (IsReportOf form.Run bytes hearing))
+run_exists bytes hearing =
+    read_exists (scenario_from bytes) (IsReportOf form.Run bytes hearing)
+    (λ scenario is. answer_by (IsReported form.Run scenario hearing) (IsReportOf form.Run bytes hearing)
+    (λ text status reported. record { scenario = scenario; reading = is; reported = reported })
+    (report_exists scenario hearing (scenario_valid bytes scenario is)))
 
-asm_exists : (bytes : List ℕ) (hearing : List Listening) (r : Result Image Refusal) → image_from_asm bytes ≡ r
-    → HasAnswer (AnswersInput form.Asm (Whole bytes) hearing)
-asm_exists bytes hearing (Ok image) is =
-    (image_text image, (ended.Done, inr (record { image = image; reading = is; text_is = refl }, refl)))
-asm_exists bytes hearing (Err refusal) is = refused_by form.Asm bytes hearing Image (image_from_asm bytes) refusal is (λ text line. line)
+pub asm_exists : (bytes : List ℕ) → HasAnswer (IsFaultOr (IsRefusalLine (image_from_asm bytes)) (IsDone (IsImageOf bytes)))
+asm_exists bytes =
+    read_exists (image_from_asm bytes) (IsDone (IsImageOf bytes))
+    (λ image is. (image_text image, (ended.Done, (record { image = image; reading = is; text_is = refl }, refl))))
 
-dis_exists : (bytes : List ℕ) (hearing : List Listening) (r : Result Image Refusal) → image_from bytes ≡ r
-    → HasAnswer (AnswersInput form.Dis (Whole bytes) hearing)
-dis_exists bytes hearing (Ok image) is =
-    (disassembled image, (ended.Done, inr (record { image = image; reading = is; text_is = refl }, refl)))
-dis_exists bytes hearing (Err refusal) is = refused_by form.Dis bytes hearing Image (image_from bytes) refusal is (λ text line. line)
+pub dis_exists : (bytes : List ℕ) → HasAnswer (IsFaultOr (IsRefusalLine (image_from bytes)) (IsDone (IsAsmOf bytes)))
+dis_exists bytes =
+    read_exists (image_from bytes) (IsDone (IsAsmOf bytes))
+    (λ image is. (disassembled image, (ended.Done, (record { image = image; reading = is; text_is = refl }, refl))))
 
-list_exists : (bytes : List ℕ) (hearing : List Listening) (r : Result (List ℕ) Refusal) → listing_from bytes ≡ r
-    → HasAnswer (AnswersInput form.List (Whole bytes) hearing)
-list_exists bytes hearing (Ok text) is = (text, (ended.Done, inr (is, refl)))
-list_exists bytes hearing (Err refusal) is = refused_by form.List bytes hearing (List ℕ) (listing_from bytes) refusal is (λ text line. line)
+pub list_exists : (bytes : List ℕ)
+    → HasAnswer (IsFaultOr (IsRefusalLine (listing_from bytes)) (IsDone (λ text. listing_from bytes ≡ Ok text)))
+list_exists bytes =
+    read_exists (listing_from bytes) (IsDone (λ text. listing_from bytes ≡ Ok text)) (λ text is. (text, (ended.Done, (is, refl))))
 
-campaign_exists : (bytes : List ℕ) (hearing : List Listening) (r : Result Plan Refusal) → plan_from bytes ≡ r → IfOk r IsValidPlan
-    → HasAnswer (AnswersInput form.Campaign (Whole bytes) hearing)
-campaign_exists bytes hearing (Ok plan) is valid =
-    let there = promised_table plan valid in
-    let text : List ℕ = plan_table_text plan there.0 there.1.0 in
-    (text, (ended.Done, inr (table_of bytes plan there.0 there.1.0 text is there.1.1 refl, refl)))
-campaign_exists bytes hearing (Err refusal) is valid =
-    refused_by form.Campaign bytes hearing Plan (plan_from bytes) refusal is (λ text line. line)
+table_exists : (bytes : List ℕ) (plan : Plan) → plan_from bytes ≡ Ok plan → HasAnswer (IsDone (IsTableOf bytes))
+table_exists bytes plan is =
+    let made = promised_table plan (subst (λ r. IfOk r IsValidPlan) is (plan_is_valid bytes)) in
+    let text : List ℕ = plan_table_text plan made.0 made.1.0 in
+    (text, (ended.Done, (table_of bytes plan made.0 made.1.0 text is made.1.1 refl, refl)))
+
+pub campaign_exists : (bytes : List ℕ) → HasAnswer (IsFaultOr (IsRefusalLine (plan_from bytes)) (IsDone (IsTableOf bytes)))
+campaign_exists bytes = read_exists (plan_from bytes) (IsDone (IsTableOf bytes)) (table_exists bytes)
 
 -- ---- traces
 
-traced : (bytes : List ℕ) (part burst : ℕ) (hearing : List Listening) (scenario : Scenario) (s : Simulation) (trace : Option (List ℕ))
+traced : (bytes : List ℕ) (part burst : ℕ) (scenario : Scenario) (s : Simulation) (trace : Option (List ℕ))
     → scenario_from bytes ≡ Ok scenario → IsScheduledRun scenario s → trace ≡ trace_text scenario.parts (journals_of s) part burst
-    → HasAnswer (AnswersInput (form.Trace part burst) (Whole bytes) hearing)
-traced bytes part burst hearing scenario s None reading run is = (
+    → HasAnswer (IsFaultOr (IsFaultOf (form.Trace part burst) bytes) (IsDone (IsTraceOf bytes part burst)))
+traced bytes part burst scenario s None reading run is = (
   no_such_burst_text,
   (
     ended.BadInput,
@@ -181,7 +165,7 @@ traced bytes part burst hearing scenario s None reading run is = (
     ),
   ),
 )
-traced bytes part burst hearing scenario s (Some text) reading run is = (
+traced bytes part burst scenario s (Some text) reading run is = (
   text,
   (
     ended.Done,
@@ -192,13 +176,12 @@ traced bytes part burst hearing scenario s (Some text) reading run is = (
   ),
 )
 
-trace_exists : (bytes : List ℕ) (part burst : ℕ) (hearing : List Listening) (r : Result Scenario Refusal) → scenario_from bytes ≡ r
-    → IfOk r IsValidScenario → HasAnswer (AnswersInput (form.Trace part burst) (Whole bytes) hearing)
-trace_exists bytes part burst hearing (Ok scenario) is valid =
-    let end = scheduled_ends scenario valid in
-    traced bytes part burst hearing scenario end.0 (trace_text scenario.parts (journals_of end.0) part burst) is end.1 refl
-trace_exists bytes part burst hearing (Err refusal) is valid =
-    refused_by (form.Trace part burst) bytes hearing Scenario (scenario_from bytes) refusal is (λ text line. inl line)
+pub trace_exists : (bytes : List ℕ) (part burst : ℕ)
+    → HasAnswer (IsFaultOr (IsFaultOf (form.Trace part burst) bytes) (IsDone (IsTraceOf bytes part burst)))
+trace_exists bytes part burst =
+    either_exists (scenario_from bytes) (IsFaultOf (form.Trace part burst) bytes) (IsDone (IsTraceOf bytes part burst)) (λ text line. inl line)
+    (λ scenario is. let end = scheduled_ends scenario (scenario_valid bytes scenario is) in
+    traced bytes part burst scenario end.0 (trace_text scenario.parts (journals_of end.0) part burst) is end.1 refl)
 
 -- ---- guards
 
@@ -221,45 +204,44 @@ guard_report_exists scenario hearing made is =
       ),
     )
 
-read_valid : (r : Result Scenario Refusal) (scenario : Scenario) → IfOk r IsValidScenario → r ≡ Ok scenario → IsValidScenario scenario
-read_valid r scenario valid e = subst (λ x. IfOk x IsValidScenario) e valid
+pub guard_exists : AllGuarded → (bytes : List ℕ) (hearing : List Listening)
+    → HasAnswer (IsFaultOr (IsRefusalLine (guardable_from bytes)) (IsGuardOf bytes hearing))
+guard_exists guarded bytes hearing = read_exists (guardable_from bytes) (IsGuardOf bytes hearing) by_scenario
+  where
+    by_scenario : (scenario : Scenario) → guardable_from bytes ≡ Ok scenario → HasAnswer (IsGuardOf bytes hearing)
+    by_scenario scenario is =
+        let read = guardable_parts (scenario_from bytes) scenario is in
+        let made = guarded scenario (scenario_valid bytes scenario read.0) read.1 in
+        answer_by (IsGuardReport scenario hearing) (IsGuardOf bytes hearing)
+        (λ text status reported. record { scenario = scenario; reading = is; room = read.1; reported = reported })
+        (guard_report_exists scenario hearing made.0 made.1)
 
-guard_exists : AllGuarded → (bytes : List ℕ) (hearing : List Listening) (r : Result Scenario Refusal) → guardable_from bytes ≡ r
-    → HasAnswer (AnswersInput form.Guard (Whole bytes) hearing)
-guard_exists guarded bytes hearing (Ok scenario) is =
-    let read = guardable_parts (scenario_from bytes) scenario is in
-    let made = guarded scenario (read_valid (scenario_from bytes) scenario (scenario_is_valid bytes) read.0) read.1 in
-    answer_by (IsGuardReport scenario hearing) (AnswersInput form.Guard (Whole bytes) hearing)
-    (λ text status reported. inr (record { scenario = scenario; reading = is; room = read.1; reported = reported }))
-    (guard_report_exists scenario hearing made.0 made.1)
-guard_exists guarded bytes hearing (Err refusal) is =
-    refused_by form.Guard bytes hearing Scenario (guardable_from bytes) refusal is (λ text line. line)
-
-guarded_exists : AllGuarded → (bytes : List ℕ) (hearing : List Listening) (r : Result Scenario Refusal) → guardable_from bytes ≡ r
-    → HasAnswer (AnswersInput form.GuardScenario (Whole bytes) hearing)
-guarded_exists guarded bytes hearing (Ok scenario) is =
-    let read = guardable_parts (scenario_from bytes) scenario is in
-    let made = guarded scenario (read_valid (scenario_from bytes) scenario (scenario_is_valid bytes) read.0) read.1 in (
-      scenario_line made.0.scenario,
-      (
-        ended.Done,
-        inr (
-          record {
-            scenario = scenario;
-            reading = is;
-            room = read.1;
-            line = record {
-              guarded = made.0.scenario;
-              is_guarded = record { simulation = made.1.simulation; run = made.1.guarded; same = made.1.same };
-              text_is = refl;
-            };
-          },
-          refl,
-        ),
-      ),
-    )
-guarded_exists guarded bytes hearing (Err refusal) is =
-    refused_by form.GuardScenario bytes hearing Scenario (guardable_from bytes) refusal is (λ text line. line)
+pub guarded_exists : AllGuarded → (bytes : List ℕ)
+    → HasAnswer (IsFaultOr (IsRefusalLine (guardable_from bytes)) (IsDone (IsGuardedOf bytes)))
+guarded_exists guarded bytes = read_exists (guardable_from bytes) (IsDone (IsGuardedOf bytes)) by_scenario
+  where
+    by_scenario : (scenario : Scenario) → guardable_from bytes ≡ Ok scenario → HasAnswer (IsDone (IsGuardedOf bytes))
+    by_scenario scenario is =
+        let read = guardable_parts (scenario_from bytes) scenario is in
+        let made = guarded scenario (scenario_valid bytes scenario read.0) read.1 in (
+          scenario_line made.0.scenario,
+          (
+            ended.Done,
+            (
+              record {
+                scenario = scenario;
+                reading = is;
+                room = read.1;
+                line = record {
+                  guarded = made.0.scenario;
+                  is_guarded = record { simulation = made.1.simulation; run = made.1.guarded; same = made.1.same };
+                  text_is = refl;
+                };
+              },
+              refl,
+            ),
+          ),
+        )
 
 -- ---- every order of the steps
 
@@ -274,22 +256,22 @@ exploration_reported scenario text number explored =
       ),
     )
 
-explore_exists : (bytes : List ℕ) (hearing : List Listening) (r : Result Scenario Refusal) → scenario_from bytes ≡ r → IfOk r IsValidScenario
-    → HasAnswer (AnswersInput form.Explore (Whole bytes) hearing)
-explore_exists bytes hearing (Ok scenario) is valid =
-    let there = exploration_exists scenario valid in
-    answer_by (IsExploration scenario) (AnswersInput form.Explore (Whole bytes) hearing)
-    (λ text status printed. inr (record { scenario = scenario; reading = is; exploration = printed }))
-    (exploration_reported scenario there.0 there.1.0 there.1.1)
-explore_exists bytes hearing (Err refusal) is valid =
-    refused_by form.Explore bytes hearing Scenario (scenario_from bytes) refusal is (λ text line. line)
+pub explore_exists : (bytes : List ℕ) → HasAnswer (IsFaultOr (IsRefusalLine (scenario_from bytes)) (IsExploredOf bytes))
+explore_exists bytes = read_exists (scenario_from bytes) (IsExploredOf bytes) by_scenario
+  where
+    by_scenario : (scenario : Scenario) → scenario_from bytes ≡ Ok scenario → HasAnswer (IsExploredOf bytes)
+    by_scenario scenario is =
+        let made = exploration_exists scenario (scenario_valid bytes scenario is) in
+        answer_by (IsExploration scenario) (IsExploredOf bytes)
+        (λ text status printed. record { scenario = scenario; reading = is; exploration = printed })
+        (exploration_reported scenario made.0 made.1.0 made.1.1)
 
 -- ---- audits
 
-verdict_exists : (bytes handed report : List ℕ) (hearing : List Listening) (r : Result Scenario Refusal) → Hands bytes handed report
+verdict_exists : (bytes handed report : List ℕ) (r : Result Scenario Refusal) → Hands bytes handed report
     → length handed ≤ limit_of form.Run → scenario_from handed ≡ r → IfOk r IsValidScenario
-    → HasAnswer (AnswersInput form.Audit (Whole bytes) hearing)
-verdict_exists bytes handed report hearing (Ok scenario) hands short is valid =
+    → HasAnswer (IsFaultOr (IsFaultOf form.Audit bytes) (IsAuditOf bytes))
+verdict_exists bytes handed report (Ok scenario) hands short is valid =
     let f = finds_exists scenario report in (
       verdict_text f.0,
       (
@@ -311,7 +293,7 @@ verdict_exists bytes handed report hearing (Ok scenario) hands short is valid =
         }),
       ),
     )
-verdict_exists bytes handed report hearing (Err refusal) hands short is valid = (
+verdict_exists bytes handed report (Err refusal) hands short is valid = (
   fault_line refusal,
   (
     ended.BadInput,
@@ -327,9 +309,9 @@ verdict_exists bytes handed report hearing (Err refusal) hands short is valid = 
   ),
 )
 
-by_length : (bytes handed report : List ℕ) (hearing : List Listening) (long : Bool) → Hands bytes handed report
-    → nat_lt (limit_of form.Run) (length handed) ≡ long → HasAnswer (AnswersInput form.Audit (Whole bytes) hearing)
-by_length bytes handed report hearing true hands is = (
+by_length : (bytes handed report : List ℕ) (long : Bool) → Hands bytes handed report
+    → nat_lt (limit_of form.Run) (length handed) ≡ long → HasAnswer (IsFaultOr (IsFaultOf form.Audit bytes) (IsAuditOf bytes))
+by_length bytes handed report true hands is = (
   fault_line (at_root fault.TooMany),
   (
     ended.BadInput,
@@ -344,65 +326,14 @@ by_length bytes handed report hearing true hands is = (
     ),
   ),
 )
-by_length bytes handed report hearing false hands is =
-    verdict_exists bytes handed report hearing (scenario_from handed) hands (ltb-false (limit_of form.Run) (length handed) is) refl
+by_length bytes handed report false hands is =
+    verdict_exists bytes handed report (scenario_from handed) hands (ltb-false (limit_of form.Run) (length handed) is) refl
     (scenario_is_valid handed)
 
-audit_exists : (bytes : List ℕ) (hearing : List Listening) → HasAnswer (AnswersInput form.Audit (Whole bytes) hearing)
-audit_exists bytes hearing = by_handed (hands_or_not bytes)
+pub audit_exists : (bytes : List ℕ) → HasAnswer (IsFaultOr (IsFaultOf form.Audit bytes) (IsAuditOf bytes))
+audit_exists bytes = by_handed (hands_or_not bytes)
   where
     by_handed : ((scenario : List ℕ) × ((report : List ℕ) × Hands bytes scenario report)) ⊎ ((scenario report : List ℕ) → Hands bytes scenario report → ⊥)
-        → HasAnswer (AnswersInput form.Audit (Whole bytes) hearing)
-    by_handed (inl h) = by_length bytes h.0 h.1.0 hearing (nat_lt (limit_of form.Run) (length h.0)) h.1.1 refl
+        → HasAnswer (IsFaultOr (IsFaultOf form.Audit bytes) (IsAuditOf bytes))
+    by_handed (inl h) = by_length bytes h.0 h.1.0 (nat_lt (limit_of form.Run) (length h.0)) h.1.1 refl
     by_handed (inr none) = (bad_header_text, (ended.BadInput, inl (inl (none, refl), refl)))
-
--- ---- subcommands
-
-input_exists : AllGuarded → (asked : Form) (input : Input) (hearing : List Listening) → is_alone asked ≡ true → is_reading asked ≡ true
-    → HasAnswer (AnswersInput asked input hearing)
-input_exists guarded asked TooLong hearing alone reading = (fault_line (at_root fault.TooMany), (ended.BadInput, (refl, refl)))
-input_exists guarded form.Run (Whole bytes) hearing alone reading = run_exists bytes hearing (scenario_from bytes) refl (scenario_is_valid bytes)
-input_exists guarded form.RunThreads (Whole bytes) hearing alone reading = absurd (true≢false (sym alone))
-input_exists guarded form.Asm (Whole bytes) hearing alone reading = asm_exists bytes hearing (image_from_asm bytes) refl
-input_exists guarded form.Dis (Whole bytes) hearing alone reading = dis_exists bytes hearing (image_from bytes) refl
-input_exists guarded (form.Gen number) (Whole bytes) hearing alone reading = absurd (true≢false (sym reading))
-input_exists guarded (form.GenScenario number) (Whole bytes) hearing alone reading = absurd (true≢false (sym reading))
-input_exists guarded form.Audit (Whole bytes) hearing alone reading = audit_exists bytes hearing
-input_exists guarded form.Campaign (Whole bytes) hearing alone reading =
-    campaign_exists bytes hearing (plan_from bytes) refl (plan_is_valid bytes)
-input_exists guarded form.Mirror (Whole bytes) hearing alone reading = absurd (true≢false (sym alone))
-input_exists guarded form.List (Whole bytes) hearing alone reading = list_exists bytes hearing (listing_from bytes) refl
-input_exists guarded (form.Trace part burst) (Whole bytes) hearing alone reading =
-    trace_exists bytes part burst hearing (scenario_from bytes) refl (scenario_is_valid bytes)
-input_exists guarded form.Guard (Whole bytes) hearing alone reading = guard_exists guarded bytes hearing (guardable_from bytes) refl
-input_exists guarded form.GuardScenario (Whole bytes) hearing alone reading = guarded_exists guarded bytes hearing (guardable_from bytes) refl
-input_exists guarded form.Explore (Whole bytes) hearing alone reading = explore_exists bytes hearing (scenario_from bytes) refl (scenario_is_valid bytes)
-input_exists guarded form.Help (Whole bytes) hearing alone reading = absurd (true≢false (sym reading))
-input_exists guarded form.Version (Whole bytes) hearing alone reading = absurd (true≢false (sym reading))
-
-form_exists : AllGuarded → (words : List (List ℕ)) (asked : Form) (input : Input) (hearing : List Listening) → IsForm words asked → is_alone asked ≡ true
-    → HasAnswer (Answers (Some asked) input hearing)
-form_exists guarded words form.Run input hearing is alone = input_exists guarded form.Run input hearing alone refl
-form_exists guarded words form.RunThreads input hearing is alone = absurd (true≢false (sym alone))
-form_exists guarded words form.Asm input hearing is alone = input_exists guarded form.Asm input hearing alone refl
-form_exists guarded words form.Dis input hearing is alone = input_exists guarded form.Dis input hearing alone refl
-form_exists guarded words (form.Gen number) input hearing is alone = summary_exists number is.2
-form_exists guarded words (form.GenScenario number) input hearing is alone = (scenario_line (generated number), (ended.Done, (refl, refl)))
-form_exists guarded words form.Audit input hearing is alone = input_exists guarded form.Audit input hearing alone refl
-form_exists guarded words form.Campaign input hearing is alone = input_exists guarded form.Campaign input hearing alone refl
-form_exists guarded words form.Mirror input hearing is alone = absurd (true≢false (sym alone))
-form_exists guarded words form.List input hearing is alone = input_exists guarded form.List input hearing alone refl
-form_exists guarded words (form.Trace part burst) input hearing is alone = input_exists guarded (form.Trace part burst) input hearing alone refl
-form_exists guarded words form.Guard input hearing is alone = input_exists guarded form.Guard input hearing alone refl
-form_exists guarded words form.GuardScenario input hearing is alone = input_exists guarded form.GuardScenario input hearing alone refl
-form_exists guarded words form.Explore input hearing is alone = input_exists guarded form.Explore input hearing alone refl
-form_exists guarded words form.Help input hearing is alone = (help_text, (ended.Done, (refl, refl)))
-form_exists guarded words form.Version input hearing is alone = (version_text, (ended.Done, (refl, refl)))
-
-pub words_exist : AllGuarded → (words : List (List ℕ)) (asked : Option Form) (hearing : List Listening) (bytes : List ℕ) → Asks words asked → AskAlone words
-    → (text : List ℕ) × ((status : Status) × AnswersBytes words hearing bytes text status)
-words_exist guarded words None hearing bytes asks alone =
-    (usage_text, (ended.Usage, record { asked = None; asks = asks; answer = (refl, refl) }))
-words_exist guarded words (Some asked) hearing bytes asks alone =
-    answer_by (Answers (Some asked) (input_for (Some asked) bytes) hearing) (AnswersBytes words hearing bytes) (λ text status answer. record { asked = Some asked; asks = asks; answer = answer })
-    (form_exists guarded words asked (input_for (Some asked) bytes) hearing asks (alone asked asks))

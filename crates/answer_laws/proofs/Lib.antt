@@ -1,5 +1,7 @@
 pub mod Alike
+pub mod Answered
 pub mod Audited
+pub mod EachForm
 pub mod Existing
 pub mod Explorable
 pub mod Guarding

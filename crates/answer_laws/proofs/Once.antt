@@ -1,6 +1,8 @@
--- Every subcommand that never waits has at most one answer, except `explore`.
-use Rattle.std.proofs.Common.{◌≡◌, ℕ, ◌==◌, ◌<◌, ◌≤◌, if◌then◌else◌, true, List, [], ◌∷◌, ◌++◌, ◌⊎◌, inl, inr, length, map, Option, Some, None, Result, Ok, Err, IfOk, refl, sym, ap, ◌∙◌, subst, true≢false, arith}
+-- What a subcommand with one possible answer does, or an input error: there is at most one answer of each kind.
+use Rattle.std.proofs.Common.{◌≡◌, ℕ, ◌==◌, ◌<◌, ◌≤◌, if◌then◌else◌, List, [], ◌∷◌, ◌++◌, inl, inr, length, map, Option, Some, None, Ok, IfOk, refl, sym, ap, ◌∙◌, subst, arith}
 use Rattle.std.specs.List.{AllZip}
+use Rattle.answer_laws.proofs.Answered.{HasOneAnswer, IsDone, IsFaultOr, done_once, either_once, not_both, ok_once, read_once, refusal_once}
+use Rattle.answer_laws.proofs.Stops.{guarded_once}
 use Rattle.asm_defs.specs.Disassembler.{disassembled}
 use Rattle.asm_defs.specs.ImageText.{image_text}
 use Rattle.audit_input.proofs.Once.{hands_once}
@@ -11,31 +13,24 @@ use Rattle.campaign_defs.specs.Rows.{AreMemberRows, IsPlanTable}
 use Rattle.campaign_defs.specs.TableText.{plan_table_text}
 use Rattle.campaign_defs.specs.Types.{Row}
 use Rattle.campaign_laws.proofs.PlanTables.{plan_table_once}
-use Rattle.command_forms.proofs.OneForm.{one_form}
-use Rattle.command_forms.specs.Forms.{AskOneAnswer, Asks, has_one_answer, is_alone, limit_of}
-use Rattle.command_forms.specs.declared.words.Form.{Form}
+use Rattle.command_forms.specs.Forms.{limit_of}
 use Rattle.command_forms.specs.declared.words.Form.TheVariants as form
 use Rattle.guard_defs.specs.GuardText.{guard_lines}
-use Rattle.input_defs.specs.Faults.{fault_line}
 use Rattle.input_defs.specs.ImageReading.{image_from, image_from_asm}
 use Rattle.input_defs.specs.PlanReading.{plan_from}
 use Rattle.input_defs.specs.ScenarioReading.{scenario_from}
-use Rattle.input_defs.specs.declared.input.Refusal.{Refusal}
 use Rattle.nook_data.specs.declared.scenario.Fault.{Fault}
 use Rattle.nook_data.specs.declared.scenario.PartSpec.{PartSpec}
 use Rattle.nook_data.specs.Valid.{IsValidScenario}
 use Rattle.nook_data.specs.declared.scenario.Scenario.{Scenario}
 use Rattle.nook_data.specs.declared.steps.Event.{Event}
 use Rattle.nook_io.specs.Listening.{Listening, heard_events, tap_result}
-use Rattle.answer_laws.proofs.Stops.{guarded_once}
 use Rattle.campaign_laws.proofs.Traps.{traps_once}
-use Rattle.nooks.specs.Answers.{Answers, AnswersInput, IsAsmOf, IsAuditOf, IsFaultOf, IsGuardOf, IsGuardReport, IsGuardedLine, IsGuardedOf}
+use Rattle.nooks.specs.Answers.{IsAsmOf, IsAuditOf, IsFaultOf, IsGuardOf, IsGuardReport, IsGuardedLine, IsGuardedOf}
 use Rattle.nooks.specs.Answers.{IsImageOf, IsMember, IsRefusalLine, IsReportOf}
 use Rattle.nooks.specs.Answers.{IsReportStatus, IsReported, IsScenarioFault, IsScheduled, IsSummary, IsTableOf, IsTraceOf, IsVerdict, Left, listing_from, verdict_status}
-use Rattle.nooks.specs.Endings.{AnswersBytes, input_for}
 use Rattle.nooks.specs.Guardable.{guardable_from}
-use Rattle.nooks.specs.Streams.{Input, TooLong, Whole}
-use Rattle.nooks.specs.Texts.{help_text, usage_text, verdict_text, version_text}
+use Rattle.nooks.specs.Texts.{verdict_text}
 use Rattle.nooks.specs.declared.program.Status.{Status}
 use Rattle.nooks.specs.declared.program.Status.TheVariants as ended
 use Rattle.order_laws.proofs.ReadOnce.{finds_once}
@@ -49,25 +44,13 @@ use Rattle.sim_run.proofs.Ending.{scheduled_once}
 use Rattle.sim_run.proofs.Publishing.{journals_are_heard}
 use Rattle.sim_run.specs.Published.{heard_in_journals, published}
 
--- ---- what was read
-
-ok_once : {T E : Type 0} (r : Result T E) (a b : T) → r ≡ Ok a → r ≡ Ok b → a ≡ b
-ok_once r a b e f = cc
-
-err_once : {T E : Type 0} (r : Result T E) (a b : E) → r ≡ Err a → r ≡ Err b → a ≡ b
-err_once r a b e f = cc
-
-not_both : {P : Type 0} {T E : Type 0} (r : Result T E) (a : T) (b : E) → r ≡ Ok a → r ≡ Err b → P
-not_both r a b e f = absurd (cc)
+-- ---- options
 
 some_once : {T : Type 0} (a b : T) → Some a ≡ Some b → a ≡ b
 some_once a b e = cc
 
 not_none : {P T : Type 0} (o : Option T) (a : T) → Some a ≡ o → None ≡ o → P
 not_none o a e f = absurd (cc)
-
-refusal_once : {T : Type 0} (r : Result T Refusal) (text other : List ℕ) → IsRefusalLine r text → IsRefusalLine r other → text ≡ other
-refusal_once r text other a b = a.text_is ∙ (ap fault_line (err_once r a.refusal b.refusal a.is b.is) ∙ sym b.text_is)
 
 -- ---- statuses
 
@@ -138,7 +121,7 @@ reported_once scenario hearing text other status end a b =
       statuses_once scenario.parts a.left.journals b.left.journals status end journals a.status_is b.status_is,
     )
 
-summary_once : (number : ℕ) (text other : List ℕ) (status end : Status) → IsSummary number text status → IsSummary number other end
+pub summary_once : (number : ℕ) (text other : List ℕ) (status end : Status) → IsSummary number text status → IsSummary number other end
     → (text ≡ other) × (status ≡ end)
 summary_once number text other status end a b =
     let journals = journals_once (generated number) [] a.left b.left a.run b.run in (
@@ -191,8 +174,8 @@ image_once : (bytes text other : List ℕ) → IsImageOf bytes text → IsImageO
 image_once bytes text other a b =
     a.text_is ∙ (ap image_text (ok_once (image_from_asm bytes) a.image b.image a.reading b.reading) ∙ sym b.text_is)
 
-asm_once : (bytes text other : List ℕ) → IsAsmOf bytes text → IsAsmOf bytes other → text ≡ other
-asm_once bytes text other a b =
+asm_text_once : (bytes text other : List ℕ) → IsAsmOf bytes text → IsAsmOf bytes other → text ≡ other
+asm_text_once bytes text other a b =
     a.text_is ∙ (ap disassembled (ok_once (image_from bytes) a.image b.image a.reading b.reading) ∙ sym b.text_is)
 
 member_rows : (plan : Plan) (base : Ran) (lists : List (List Fault)) (rows : List Row) → AllZip (IsMember plan base) lists rows
@@ -230,9 +213,9 @@ verdict_once scenario report text other status end valid a b =
       a.status_is ∙ (ap (λ r. verdict_status r) same ∙ sym b.status_is),
     )
 
-audit_once : (bytes text other : List ℕ) (status end : Status) → IsAuditOf bytes text status → IsAuditOf bytes other end
+audit_verdict_once : (bytes text other : List ℕ) (status end : Status) → IsAuditOf bytes text status → IsAuditOf bytes other end
     → (text ≡ other) × (status ≡ end)
-audit_once bytes text other status end a b =
+audit_verdict_once bytes text other status end a b =
     let same = hands_once bytes a.handed a.report b.handed b.report a.hands b.hands in
     let scenario = ok_once (scenario_from b.handed) a.scenario b.scenario (subst (λ h. scenario_from h ≡ Ok a.scenario) same.0 a.reading) b.reading in
     verdict_once b.scenario b.report text other status end (subst (λ r. IfOk r IsValidScenario) b.reading (scenario_is_valid b.handed))
@@ -251,19 +234,19 @@ traces_once bytes part burst scenario again one other a b x y =
     trace_at again part burst one other
     (subst (λ s. IsTraceText s part burst one) (ok_once (scenario_from bytes) scenario again a b) x) y
 
-trace_once : (bytes : List ℕ) (part burst : ℕ) (text other : List ℕ) → IsTraceOf bytes part burst text → IsTraceOf bytes part burst other
+trace_text_once : (bytes : List ℕ) (part burst : ℕ) (text other : List ℕ) → IsTraceOf bytes part burst text → IsTraceOf bytes part burst other
     → text ≡ other
-trace_once bytes part burst text other a b =
+trace_text_once bytes part burst text other a b =
     some_once text other (traces_once bytes part burst a.scenario b.scenario (Some text) (Some other) a.reading b.reading a.trace b.trace)
 
-guard_once : (bytes : List ℕ) (hearing : List Listening) (text other : List ℕ) (status end : Status) → IsGuardOf bytes hearing text status
+guarded_run_once : (bytes : List ℕ) (hearing : List Listening) (text other : List ℕ) (status end : Status) → IsGuardOf bytes hearing text status
     → IsGuardOf bytes hearing other end → (text ≡ other) × (status ≡ end)
-guard_once bytes hearing text other status end a b =
+guarded_run_once bytes hearing text other status end a b =
     let same = ok_once (guardable_from bytes) a.scenario b.scenario a.reading b.reading in
     guard_report_once b.scenario hearing text other status end (subst (λ s. IsGuardReport s hearing text status) same a.reported) b.reported
 
-guarded_scenario_once : (bytes text other : List ℕ) → IsGuardedOf bytes text → IsGuardedOf bytes other → text ≡ other
-guarded_scenario_once bytes text other a b =
+guarded_of_once : (bytes text other : List ℕ) → IsGuardedOf bytes text → IsGuardedOf bytes other → text ≡ other
+guarded_of_once bytes text other a b =
     let same = ok_once (guardable_from bytes) a.scenario b.scenario a.reading b.reading in
     guarded_line_once b.scenario text other (subst (λ s. IsGuardedLine s text) same a.line) b.line
 
@@ -310,128 +293,53 @@ trace_has_no_fault bytes part burst text other a (inr b) =
 
 -- ---- answers
 
--- an answer is the line of an input error, or what a subcommand does
-module _ (Faulty : List ℕ → Type 0) (Doing : List ℕ → Status → Type 0)
-    (faults : (text other : List ℕ) → Faulty text → Faulty other → text ≡ other)
-    (does : (text other : List ℕ) (status end : Status) → Doing text status → Doing other end → (text ≡ other) × (status ≡ end))
-    (apart : (text other : List ℕ) (status : Status) → Doing text status → Faulty other → ⊥) where
-  pub either_once : (text other : List ℕ) (status end : Status) → (Faulty text × (status ≡ ended.BadInput)) ⊎ Doing text status
-      → (Faulty other × (end ≡ ended.BadInput)) ⊎ Doing other end → (text ≡ other) × (status ≡ end)
-  either_once text other status end (inl a) (inl b) = (faults text other a.0 b.0, a.1 ∙ sym b.1)
-  either_once text other status end (inl a) (inr b) = absurd (apart other text end b a.0)
-  either_once text other status end (inr a) (inl b) = absurd (apart text other status a b.0)
-  either_once text other status end (inr a) (inr b) = does text other status end a b
+pub run_once : (bytes : List ℕ) (hearing : List Listening)
+    → HasOneAnswer (IsFaultOr (IsRefusalLine (scenario_from bytes)) (IsReportOf form.Run bytes hearing))
+run_once bytes hearing =
+    read_once (scenario_from bytes) (IsReportOf form.Run bytes hearing) (report_once bytes hearing)
+    (λ text status is. (is.scenario, is.reading))
 
--- an answer that ends as done
-done_once : (Does : List ℕ → Type 0) → ((text other : List ℕ) → Does text → Does other → text ≡ other)
-    → (text other : List ℕ) (status end : Status) → Does text × (status ≡ ended.Done) → Does other × (end ≡ ended.Done)
-    → (text ≡ other) × (status ≡ end)
-done_once Does does text other status end a b = (does text other a.0 b.0, a.1 ∙ sym b.1)
+pub asm_once : (bytes : List ℕ) → HasOneAnswer (IsFaultOr (IsRefusalLine (image_from_asm bytes)) (IsDone (IsImageOf bytes)))
+asm_once bytes =
+    read_once (image_from_asm bytes) (IsDone (IsImageOf bytes)) (done_once (IsImageOf bytes) (image_once bytes))
+    (λ text status is. (is.0.image, is.0.reading))
 
-input_once : (asked : Form) (input : Input) (hearing : List Listening) (text other : List ℕ) (status end : Status) → has_one_answer asked ≡ true
-    → AnswersInput asked input hearing text status → AnswersInput asked input hearing other end → (text ≡ other) × (status ≡ end)
-input_once asked TooLong hearing text other status end one_only a b = (a.0 ∙ sym b.0, a.1 ∙ sym b.1)
-input_once form.Run (Whole bytes) hearing text other status end one_only a b =
-    either_once (IsFaultOf form.Run bytes) (IsReportOf form.Run bytes hearing) (refusal_once (scenario_from bytes)) (report_once bytes hearing)
-    (λ t u s r f. not_both (scenario_from bytes) r.scenario f.refusal r.reading f.is) text other status end a b
-input_once form.RunThreads (Whole bytes) hearing text other status end one_only a b = absurd (true≢false (sym one_only))
-input_once form.Asm (Whole bytes) hearing text other status end one_only a b =
-    either_once (IsFaultOf form.Asm bytes) (λ t s. IsImageOf bytes t × (s ≡ ended.Done)) (refusal_once (image_from_asm bytes))
-    (done_once (IsImageOf bytes) (image_once bytes))
-    (λ t u s r f. not_both (image_from_asm bytes) r.0.image f.refusal r.0.reading f.is) text other status end a b
-input_once form.Dis (Whole bytes) hearing text other status end one_only a b =
-    either_once (IsFaultOf form.Dis bytes) (λ t s. IsAsmOf bytes t × (s ≡ ended.Done)) (refusal_once (image_from bytes))
-    (done_once (IsAsmOf bytes) (asm_once bytes))
-    (λ t u s r f. not_both (image_from bytes) r.0.image f.refusal r.0.reading f.is) text other status end a b
-input_once (form.Gen number) (Whole bytes) hearing text other status end one_only (inl a) b = absurd a.0
-input_once (form.Gen number) (Whole bytes) hearing text other status end one_only (inr a) b = absurd a
-input_once (form.GenScenario number) (Whole bytes) hearing text other status end one_only (inl a) b = absurd a.0
-input_once (form.GenScenario number) (Whole bytes) hearing text other status end one_only (inr a) b = absurd a
-input_once form.Audit (Whole bytes) hearing text other status end one_only a b =
-    either_once (IsFaultOf form.Audit bytes) (IsAuditOf bytes) (audit_fault_once bytes) (audit_once bytes)
-    (λ t u s r f. audit_has_no_fault bytes t u s r f) text other status end a b
-input_once form.Campaign (Whole bytes) hearing text other status end one_only a b =
-    either_once (IsFaultOf form.Campaign bytes) (λ t s. IsTableOf bytes t × (s ≡ ended.Done)) (refusal_once (plan_from bytes))
-    (done_once (IsTableOf bytes) (table_is_one bytes))
-    (λ t u s r f. not_both (plan_from bytes) r.0.plan f.refusal r.0.reading f.is) text other status end a b
-input_once form.Mirror (Whole bytes) hearing text other status end one_only a b = absurd (true≢false (sym one_only))
-input_once form.List (Whole bytes) hearing text other status end one_only a b =
-    either_once (IsFaultOf form.List bytes) (λ t s. (listing_from bytes ≡ Ok t) × (s ≡ ended.Done)) (refusal_once (listing_from bytes))
-    (done_once (λ t. listing_from bytes ≡ Ok t) (λ t u x y. ok_once (listing_from bytes) t u x y))
-    (λ t u s r f. not_both (listing_from bytes) t f.refusal r.0 f.is) text other status end a b
-input_once (form.Trace part burst) (Whole bytes) hearing text other status end one_only a b =
-    either_once (IsFaultOf (form.Trace part burst) bytes) (λ t s. IsTraceOf bytes part burst t × (s ≡ ended.Done))
-    (trace_fault_once bytes part burst) (done_once (IsTraceOf bytes part burst) (trace_once bytes part burst))
-    (λ t u s r f. trace_has_no_fault bytes part burst t u r.0 f) text other status end a b
-input_once form.Guard (Whole bytes) hearing text other status end one_only a b =
-    either_once (IsFaultOf form.Guard bytes) (IsGuardOf bytes hearing) (refusal_once (guardable_from bytes)) (guard_once bytes hearing)
-    (λ t u s r f. not_both (guardable_from bytes) r.scenario f.refusal r.reading f.is) text other status end a b
-input_once form.GuardScenario (Whole bytes) hearing text other status end one_only a b =
-    either_once (IsFaultOf form.GuardScenario bytes) (λ t s. IsGuardedOf bytes t × (s ≡ ended.Done)) (refusal_once (guardable_from bytes))
-    (done_once (IsGuardedOf bytes) (guarded_scenario_once bytes))
-    (λ t u s r f. not_both (guardable_from bytes) r.0.scenario f.refusal r.0.reading f.is) text other status end a b
-input_once form.Explore (Whole bytes) hearing text other status end one_only a b = absurd (true≢false (sym one_only))
-input_once form.Help (Whole bytes) hearing text other status end one_only (inl a) b = absurd a.0
-input_once form.Help (Whole bytes) hearing text other status end one_only (inr a) b = absurd a
-input_once form.Version (Whole bytes) hearing text other status end one_only (inl a) b = absurd a.0
-input_once form.Version (Whole bytes) hearing text other status end one_only (inr a) b = absurd a
+pub dis_once : (bytes : List ℕ) → HasOneAnswer (IsFaultOr (IsRefusalLine (image_from bytes)) (IsDone (IsAsmOf bytes)))
+dis_once bytes =
+    read_once (image_from bytes) (IsDone (IsAsmOf bytes)) (done_once (IsAsmOf bytes) (asm_text_once bytes))
+    (λ text status is. (is.0.image, is.0.reading))
 
-said_once : (line : List ℕ) (said : Status) (text other : List ℕ) (status end : Status) → (text ≡ line) × (status ≡ said)
-    → (other ≡ line) × (end ≡ said) → (text ≡ other) × (status ≡ end)
-said_once line said text other status end a b = (a.0 ∙ sym b.0, a.1 ∙ sym b.1)
+pub audit_once : (bytes : List ℕ) → HasOneAnswer (IsFaultOr (IsFaultOf form.Audit bytes) (IsAuditOf bytes))
+audit_once bytes =
+    either_once (IsFaultOf form.Audit bytes) (IsAuditOf bytes) (audit_fault_once bytes) (audit_verdict_once bytes)
+    (λ text other status is line. audit_has_no_fault bytes text other status is line)
 
-pub answer_once : (asked : Form) (input : Input) (hearing : List Listening) (text other : List ℕ) (status end : Status) → has_one_answer asked ≡ true
-    → Answers (Some asked) input hearing text status → Answers (Some asked) input hearing other end → (text ≡ other) × (status ≡ end)
-answer_once form.Run input hearing text other status end one_only a b = input_once form.Run input hearing text other status end one_only a b
-answer_once form.RunThreads input hearing text other status end one_only a b = absurd (true≢false (sym one_only))
-answer_once form.Asm input hearing text other status end one_only a b = input_once form.Asm input hearing text other status end one_only a b
-answer_once form.Dis input hearing text other status end one_only a b = input_once form.Dis input hearing text other status end one_only a b
-answer_once (form.Gen number) input hearing text other status end one_only a b = summary_once number text other status end a b
-answer_once (form.GenScenario number) input hearing text other status end one_only a b =
-    said_once (scenario_line (generated number)) ended.Done text other status end a b
-answer_once form.Audit input hearing text other status end one_only a b = input_once form.Audit input hearing text other status end one_only a b
-answer_once form.Campaign input hearing text other status end one_only a b = input_once form.Campaign input hearing text other status end one_only a b
-answer_once form.Mirror input hearing text other status end one_only a b = absurd (true≢false (sym one_only))
-answer_once form.List input hearing text other status end one_only a b = input_once form.List input hearing text other status end one_only a b
-answer_once (form.Trace part burst) input hearing text other status end one_only a b =
-    input_once (form.Trace part burst) input hearing text other status end one_only a b
-answer_once form.Guard input hearing text other status end one_only a b = input_once form.Guard input hearing text other status end one_only a b
-answer_once form.GuardScenario input hearing text other status end one_only a b =
-    input_once form.GuardScenario input hearing text other status end one_only a b
-answer_once form.Explore input hearing text other status end one_only a b = absurd (true≢false (sym one_only))
-answer_once form.Help input hearing text other status end one_only a b = said_once help_text ended.Done text other status end a b
-answer_once form.Version input hearing text other status end one_only a b = said_once version_text ended.Done text other status end a b
+pub campaign_once : (bytes : List ℕ) → HasOneAnswer (IsFaultOr (IsRefusalLine (plan_from bytes)) (IsDone (IsTableOf bytes)))
+campaign_once bytes =
+    read_once (plan_from bytes) (IsDone (IsTableOf bytes)) (done_once (IsTableOf bytes) (table_is_one bytes))
+    (λ text status is. (is.0.plan, is.0.reading))
 
-asked_once : (words : List (List ℕ)) (one two : Option Form) (hearing : List Listening) (bytes text other : List ℕ) (status end : Status)
-    → AskOneAnswer words → Asks words one → Asks words two → Answers one (input_for one bytes) hearing text status
-    → Answers two (input_for two bytes) hearing other end → (text ≡ other) × (status ≡ end)
-asked_once words None None hearing bytes text other status end one_only x y a b = said_once usage_text ended.Usage text other status end a b
-asked_once words None (Some two) hearing bytes text other status end one_only x y a b = absurd (x two y)
-asked_once words (Some one) None hearing bytes text other status end one_only x y a b = absurd (y one x)
-asked_once words (Some one) (Some two) hearing bytes text other status end one_only x y a b =
-    answer_once two (input_for (Some two) bytes) hearing text other status end (one_only two y)
-    (subst (λ f. Answers (Some f) (input_for (Some f) bytes) hearing text status) (one_form words one two x y) a) b
+pub list_once : (bytes : List ℕ)
+    → HasOneAnswer (IsFaultOr (IsRefusalLine (listing_from bytes)) (IsDone (λ text. listing_from bytes ≡ Ok text)))
+list_once bytes =
+    read_once (listing_from bytes) (IsDone (λ text. listing_from bytes ≡ Ok text))
+    (done_once (λ text. listing_from bytes ≡ Ok text) (λ text other a b. ok_once (listing_from bytes) text other a b))
+    (λ text status is. (text, is.0))
 
-pub words_once : (words : List (List ℕ)) (hearing : List Listening) (bytes text other : List ℕ) (status end : Status) → AskOneAnswer words
-    → AnswersBytes words hearing bytes text status → AnswersBytes words hearing bytes other end → (text ≡ other) × (status ≡ end)
-words_once words hearing bytes text other status end one_only a b =
-    asked_once words a.asked b.asked hearing bytes text other status end one_only a.asks b.asks a.answer b.answer
+pub trace_once : (bytes : List ℕ) (part burst : ℕ)
+    → HasOneAnswer (IsFaultOr (IsFaultOf (form.Trace part burst) bytes) (IsDone (IsTraceOf bytes part burst)))
+trace_once bytes part burst =
+    either_once (IsFaultOf (form.Trace part burst) bytes) (IsDone (IsTraceOf bytes part burst)) (trace_fault_once bytes part burst)
+    (done_once (IsTraceOf bytes part burst) (trace_text_once bytes part burst))
+    (λ text other status is line. trace_has_no_fault bytes part burst text other is.0 line)
 
--- every subcommand that never waits has one answer, except `explore`
-pub one_if_alone : (asked : Form) → is_alone asked ≡ true → (asked ≡ form.Explore → ⊥) → has_one_answer asked ≡ true
-one_if_alone form.Run alone other = refl
-one_if_alone form.RunThreads alone other = absurd (true≢false (sym alone))
-one_if_alone form.Asm alone other = refl
-one_if_alone form.Dis alone other = refl
-one_if_alone (form.Gen number) alone other = refl
-one_if_alone (form.GenScenario number) alone other = refl
-one_if_alone form.Audit alone other = refl
-one_if_alone form.Campaign alone other = refl
-one_if_alone form.Mirror alone other = absurd (true≢false (sym alone))
-one_if_alone form.List alone other = refl
-one_if_alone (form.Trace part burst) alone other = refl
-one_if_alone form.Guard alone other = refl
-one_if_alone form.GuardScenario alone other = refl
-one_if_alone form.Explore alone other = absurd (other refl)
-one_if_alone form.Help alone other = refl
-one_if_alone form.Version alone other = refl
+pub guard_once : (bytes : List ℕ) (hearing : List Listening)
+    → HasOneAnswer (IsFaultOr (IsRefusalLine (guardable_from bytes)) (IsGuardOf bytes hearing))
+guard_once bytes hearing =
+    read_once (guardable_from bytes) (IsGuardOf bytes hearing) (guarded_run_once bytes hearing)
+    (λ text status is. (is.scenario, is.reading))
+
+pub guarded_scenario_once : (bytes : List ℕ) → HasOneAnswer (IsFaultOr (IsRefusalLine (guardable_from bytes)) (IsDone (IsGuardedOf bytes)))
+guarded_scenario_once bytes =
+    read_once (guardable_from bytes) (IsDone (IsGuardedOf bytes)) (done_once (IsGuardedOf bytes) (guarded_of_once bytes))
+    (λ text status is. (is.0.scenario, is.0.reading))

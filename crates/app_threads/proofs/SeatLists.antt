@@ -23,6 +23,12 @@ step_at spec view ds ss i d s t Ends l n a b e = record {
   ends = e;
 }
 
+-- the same for a desk that is read from the list
+pub step_there : {D S : Type 0} (spec : D → PartSpec) (view : S → DeskView) (ds : List D) (ss : List S) (i : ℕ) (d : D) (s t : S) (Ends : PartSpec → DeskView → DeskView → Type 0)
+    → i < length ds → length ss ≡ length ds → d ≡ get_or ds i d → s ≡ get_or ss i s → Ends (spec (get_or ds i d)) (view (get_or ss i s)) (view t)
+    → IsStepAt (map spec ds) (map view ss) (map view (slice_set ss i t)) i Ends
+step_there spec view ds ss i d s t Ends l n a b e = step_at spec view ds ss i (get_or ds i d) s t Ends l n (ap (get_or ds i) a) b e
+
 -- ---- seats that are made one by one
 
 -- this many of the first desks have their seats

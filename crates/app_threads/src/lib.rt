@@ -1,6 +1,7 @@
 //! Application threads: each script, and each network part's arrivals, has its own worker.
 #![tactic(auto)]
 
+mod access;
 mod arrivals;
 mod script;
 mod seats;

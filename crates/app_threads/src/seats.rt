@@ -9,9 +9,9 @@ ghost use Rattle.app_threads.specs.Steps.{Halve, IsStepAt, IsTimely, KeepsStamps
 ghost use Rattle.app_threads.specs.Steps.{TakesInOne};
 ghost use mathlib.Core.List.{IsPrefix};
 
+use crate::access::{DeskAccess, ScriptOp};
 use clocks::Clock;
 use desk_like::DeskLike;
-use nook_data::calls::Op;
 use nook_data::desks::{DeskRefused, Receipt};
 use nook_data::limits::{MOST_FRAME_WORDS, MOST_THREADS};
 use nook_data::lists::{Frames, Words};
@@ -27,73 +27,75 @@ fn call_in_time<R: Wait, D: DeskLike>(
     desk: &D,
     seat: &mut D::Seat,
     clock: &mut Clock,
-    thread: u8,
-    op: &Op,
+    script_op: &ScriptOp<'_>,
 ) -> Result<Receipt, DeskRefused>
     requires seat { D.is_seat desk.now seat.old }
-    requires thread { thread < MOST_THREADS }
+    requires thread { script_op.now.thread < MOST_THREADS }
     ensures seat { D.is_seat desk.now seat.new }
     ensures ends { CallEnds (D.spec desk.now) (D.view seat.old)
-        (D.view seat.new) thread op.now result }
+        (D.view seat.new) script_op.now.thread script_op.now.op.now result }
     ensures stamps { IsPrefix (D.view seat.old).stamps (D.view seat.new).stamps }
     ensures timely { IfOk result
         (λ receipt. IsTimely (D.view seat.new).stamps receipt clock.old clock.new) }
 {
     desk.synchronize(seat, clock);
-    let end = desk.call(rt, alloc, seat, thread, op);
+    let end = desk.call(rt, alloc, seat, script_op.thread, script_op.op);
     desk.synchronize(seat, clock);
     end
 }
 
-/// Calls the desk with this index by a worker's clock. The call is stamped later than the clock's time, and afterwards
-/// the clock is no earlier than the answer.
+/// Calls the desk that an operation is for, by a worker's clock. The call is stamped later than the clock's time, and
+/// afterwards the clock is no earlier than the answer.
 pub fn call_at<R: Wait, D: DeskLike>(
-    rt: &R,
-    alloc: Global,
-    desks: &[D],
+    access: &DeskAccess<'_, R, D>,
     seats: &mut [D::Seat],
     clock: &mut Clock,
-    thread: u8,
-    part: u32,
-    op: &Op,
+    script_op: &ScriptOp<'_>,
 ) -> Result<Receipt, DeskRefused>
-    requires seats { AreSeats D.is_seat desks.now seats.old }
-    requires thread { thread < MOST_THREADS }
-    requires part { part < length desks.now }
-    ensures seats { AreSeats D.is_seat desks.now seats.new }
-    ensures ends { IsStepAt (map D.spec desks.now) (map D.view seats.old)
-        (map D.view seats.new) part
-        (λ spec old new. CallEnds spec old new thread op.now result) }
+    requires seats { AreSeats D.is_seat access.now.desks.now seats.old }
+    requires thread { script_op.now.thread < MOST_THREADS }
+    requires part { script_op.now.part < length access.now.desks.now }
+    ensures seats { AreSeats D.is_seat access.now.desks.now seats.new }
+    ensures ends { IsStepAt (map D.spec access.now.desks.now) (map D.view seats.old)
+        (map D.view seats.new) script_op.now.part
+        (λ spec old new. CallEnds spec old new script_op.now.thread script_op.now.op.now result) }
     ensures stamps { AtDesks KeepsStamps (map D.view seats.old) (map D.view seats.new) }
     ensures timely { IfOk result
-        (λ receipt. IsTimely (stamps_on (all_stamps (map D.view seats.new)) part) receipt
-        clock.old clock.new) }
+        (λ receipt. IsTimely (stamps_on (all_stamps (map D.view seats.new)) script_op.now.part)
+        receipt clock.old clock.new) }
 {
-    let at = part as usize;
-    call_in_time(rt, alloc, &desks[at], &mut seats[at], clock, thread, op)
+    let at = script_op.part as usize;
+    let desk = &access.desks[at];
+    call_in_time(
+        access.rt,
+        access.alloc,
+        desk,
+        &mut seats[at],
+        clock,
+        script_op,
+    )
 }
 
 /// Adds the arrival of a frame at the network part with this index.
 pub fn arrive_at<R: Wait, D: DeskLike>(
-    rt: &R,
-    alloc: Global,
-    desks: &[D],
+    access: &DeskAccess<'_, R, D>,
     seats: &mut [D::Seat],
     part: u32,
     frame: &Words,
 ) -> Result<bool, DeskRefused>
-    requires seats { AreSeats D.is_seat desks.now seats.old }
-    requires part { part < length desks.now }
-    requires net { IsNetAt (map D.spec desks.now) part }
+    requires seats { AreSeats D.is_seat access.now.desks.now seats.old }
+    requires part { part < length access.now.desks.now }
+    requires net { IsNetAt (map D.spec access.now.desks.now) part }
     requires some { 1 ≤ length frame.now }
     requires fits { length frame.now ≤ MOST_FRAME_WORDS }
-    ensures seats { AreSeats D.is_seat desks.now seats.new }
-    ensures ends { IsStepAt (map D.spec desks.now) (map D.view seats.old)
+    ensures seats { AreSeats D.is_seat access.now.desks.now seats.new }
+    ensures ends { IsStepAt (map D.spec access.now.desks.now) (map D.view seats.old)
         (map D.view seats.new) part
         (λ spec old new. ArriveEnds spec old new frame.now result) }
 {
     let at = part as usize;
-    desks[at].arrive(rt, alloc, &mut seats[at], frame)
+    let desk = &access.desks[at];
+    desk.arrive(access.rt, access.alloc, &mut seats[at], frame)
 }
 
 // Splits a new seat from the one with this index.

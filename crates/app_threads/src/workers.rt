@@ -8,6 +8,7 @@ ghost use Rattle.app_threads.specs.Steps.{Same, Spread, TakeAllIn};
 ghost use Rattle.app_threads.specs.Workers.{AreArrivals, AreScripts, AreSeats, AtDesks, KeepAccounts, KeepShares};
 ghost use Rattle.app_threads.specs.Works.{IsWork, WorkEnds};
 
+use crate::access::{DeskAccess, Tasks};
 use crate::arrivals::run_arrivals;
 use crate::script::run_script;
 use crate::seats::{join_all, split_all};
@@ -56,87 +57,80 @@ fn hire<D: DeskLike>(
 
 // Does a work at one worker's seats.
 fn work_at<R: Wait, D: DeskLike, G: Gate>(
-    rt: &R,
-    alloc: Global,
-    desks: &[D],
+    access: &DeskAccess<'_, R, D>,
     seats: &mut [D::Seat],
-    scripts: &ThreadSpecs,
-    arrivals: &[Frames],
-    gate: &G,
+    tasks: &Tasks<'_, G>,
     work: Work,
 ) -> Result<Receipts, WorkerStop>
-    requires seats { AreSeats D.is_seat desks.now seats.old }
-    requires scripts { AreScripts (length desks.now) scripts.now }
-    requires arrivals { AreArrivals (map D.spec desks.now) arrivals.now }
-    requires work { IsWork scripts.now arrivals.now work }
-    ensures seats { AreSeats D.is_seat desks.now seats.new }
-    ensures ends { WorkEnds (map D.spec desks.now) scripts.now arrivals.now
-        (map D.view seats.old) work
+    requires seats { AreSeats D.is_seat access.now.desks.now seats.old }
+    requires scripts { AreScripts (length access.now.desks.now) tasks.now.scripts.now }
+    requires arrivals { AreArrivals (map D.spec access.now.desks.now) tasks.now.arrivals.now }
+    requires work { IsWork tasks.now.scripts.now tasks.now.arrivals.now work }
+    ensures seats { AreSeats D.is_seat access.now.desks.now seats.new }
+    ensures ends { WorkEnds (map D.spec access.now.desks.now) tasks.now.scripts.now
+        tasks.now.arrivals.now (map D.view seats.old) work
         (map D.view seats.new) result }
     ensures shares { KeepShares (map D.view seats.old) (map D.view seats.new) }
 {
     match work {
         Work::Script { thread } => {
-            let script = scripts.get(thread as usize);
-            run_script(rt, alloc, desks, seats, thread, &script.ops, gate)
+            let script = tasks.scripts.get(thread as usize);
+            run_script(access, seats, thread, &script.ops, tasks.gate)
         }
         Work::Arrivals { part } => {
-            run_arrivals(rt, alloc, desks, seats, part, &arrivals[part as usize])
+            run_arrivals(access, seats, part, &tasks.arrivals[part as usize])
         }
     }
 }
 
 // What a worker does from start to end.
 fn work_off<R: Wait, D: DeskLike, G: Gate>(
-    rt: &R,
-    alloc: Global,
-    desks: &[D],
-    scripts: &ThreadSpecs,
-    arrivals: &[Frames],
-    gate: &G,
+    access: &DeskAccess<'_, R, D>,
+    tasks: &Tasks<'_, G>,
     worker: Worker<D::Seat>,
 ) -> Done<D::Seat>
-    requires scripts { AreScripts (length desks.now) scripts.now }
-    requires arrivals { AreArrivals (map D.spec desks.now) arrivals.now }
-    requires ready { IsReady D.is_seat D.spec D.view desks.now scripts.now arrivals.now worker }
-    ensures { IsDone D.is_seat D.spec D.view desks.now scripts.now arrivals.now worker result }
+    requires scripts { AreScripts (length access.now.desks.now) tasks.now.scripts.now }
+    requires arrivals { AreArrivals (map D.spec access.now.desks.now) tasks.now.arrivals.now }
+    requires ready { IsReady D.is_seat D.spec D.view access.now.desks.now
+        tasks.now.scripts.now tasks.now.arrivals.now worker }
+    ensures { IsDone D.is_seat D.spec D.view access.now.desks.now
+        tasks.now.scripts.now tasks.now.arrivals.now worker result }
 {
     let work = worker.work;
     let mut seats = worker.seats;
-    let end = work_at(rt, alloc, desks, &mut seats, scripts, arrivals, gate, work);
+    let end = work_at(access, &mut seats, tasks, work);
     Done { seats, end }
 }
 
 // Lets each worker work in its own thread, and waits for all. The caller runs those that get no thread.
 fn run_all<R: Threads + Wait + Sync, D: DeskLike, G: Gate>(
-    rt: &R,
-    alloc: Global,
-    desks: &[D],
-    scripts: &ThreadSpecs,
-    arrivals: &[Frames],
-    gate: &G,
+    access: &DeskAccess<'_, R, D>,
+    tasks: &Tasks<'_, G>,
     workers: Vec<Worker<D::Seat>>,
 ) -> Result<Vec<Done<D::Seat>>, NoMemory>
-    requires scripts { AreScripts (length desks.now) scripts.now }
-    requires arrivals { AreArrivals (map D.spec desks.now) arrivals.now }
+    requires scripts { AreScripts (length access.now.desks.now) tasks.now.scripts.now }
+    requires arrivals { AreArrivals (map D.spec access.now.desks.now) tasks.now.arrivals.now }
     requires ready { All
-        (λ worker. IsReady D.is_seat D.spec D.view desks.now scripts.now arrivals.now worker)
+        (λ worker. IsReady D.is_seat D.spec D.view access.now.desks.now
+        tasks.now.scripts.now tasks.now.arrivals.now worker)
         workers.items }
     ensures { IfOk result
-        (λ done. Each (IsDone D.is_seat D.spec D.view desks.now scripts.now arrivals.now)
+        (λ done. Each (IsDone D.is_seat D.spec D.view access.now.desks.now
+        tasks.now.scripts.now tasks.now.arrivals.now)
         workers.items done.items) }
 {
     let done = thread::map_vec(
-        rt,
+        access.rt,
         workers,
         &|worker: Worker<D::Seat>| -> Done<D::Seat>
-            requires { AreScripts (length desks.now) scripts.now
-                × AreArrivals (map D.spec desks.now) arrivals.now
-                × IsReady D.is_seat D.spec D.view desks.now scripts.now arrivals.now worker }
-            ensures { IsDone D.is_seat D.spec D.view desks.entry.now scripts.entry.now
-                arrivals.entry.now worker
+            requires { AreScripts (length access.now.desks.now) tasks.now.scripts.now
+                × AreArrivals (map D.spec access.now.desks.now) tasks.now.arrivals.now
+                × IsReady D.is_seat D.spec D.view access.now.desks.now
+                tasks.now.scripts.now tasks.now.arrivals.now worker }
+            ensures { IsDone D.is_seat D.spec D.view access.entry.now.desks.now
+                tasks.entry.now.scripts.now tasks.entry.now.arrivals.now worker
                 result }
-        { work_off(rt, alloc, desks, scripts, arrivals, gate, worker) },
+        { work_off(access, tasks, worker) },
     )?;
     Ok(done)
 }
@@ -216,7 +210,13 @@ pub fn run_workers<R: Threads + Wait + Sync, D: DeskLike, G: Gate>(
 {
     let works = works_of(alloc, scripts, arrivals)?;
     let workers = hire(alloc, desks, seats, works.as_slice())?;
-    let done = run_all(rt, alloc, desks, scripts, arrivals, gate, workers)?;
+    let access = DeskAccess { rt, alloc, desks };
+    let tasks = Tasks {
+        scripts,
+        arrivals,
+        gate,
+    };
+    let done = run_all(&access, &tasks, workers)?;
     let ends = take_in(alloc, desks, seats, done)?;
     let mut rows = rows_of(alloc, ends)?.into_vec();
     rows.truncate(scripts.len());

@@ -1,18 +1,21 @@
 -- The written line of an instruction is read as that instruction.
-use Rattle.std.specs.Prelude.{◌≡◌, refl, ℕ, ◌^◌, ◌<◌, false, nat_lt, Option, Some, Ok}
-use Rattle.std.proofs.lemmas.Bool.{le-ltb}
+use Rattle.std.specs.Prelude.{◌≡◌, refl, ℕ, ◌^◌, ◌<◌, ◌==◌, Bool, false, true, nat_lt, if◌then◌else◌, Option, None, Some, Ok}
+use Rattle.std.specs.List.{list_all}
+use mathlib.Core.Path.{ap, subst, sym, ◌∙◌}
+use Rattle.std.proofs.lemmas.Bool.{eqb-true, false≢true, le-ltb}
 use native.Mathlib.Omega.{arith}
-use Rattle.asm_defs.specs.AsmTokens.{kind_of, is_label_name}
+use Rattle.asm_defs.specs.AsmTokens.{is_label_name, is_not_empty, kind_of}
 use Rattle.asm_defs.specs.AsmLines.{Labels, value_of, operands_of, statement_of, line_says, has_bad_token}
 use Rattle.asm_defs.specs.Assembler.{Draft, is_out_of_range, with_statement, with_word}
 use Rattle.asm_defs.specs.Disassembler.{operand_tokens}
 use Rattle.asm_defs.specs.Views.Assembling.{instr_tokens}
 use Rattle.machine_defs.specs.Machine.{encode_of}
-use Rattle.machine_defs.specs.Mnemonics.{Fields, mnemonic_named, mnemonic_text, form_of, instr_with, fields_of}
+use Rattle.machine_defs.specs.Mnemonics.{Fields, mnemonic_named, mnemonic_text, form_of, instr_with, instruction_row}
+use Rattle.machine_defs.proofs.Instructions.{each, fields_back, fields_in, instr_of_fields, same_number}
+use Rattle.machine_defs.proofs.Words.{InRange}
 use Rattle.nook_data.specs.declared.machine.Form.{Form}
 use Rattle.nook_data.specs.declared.machine.Form.TheVariants as form
 use Rattle.nook_data.specs.declared.machine.Mnemonic.{Mnemonic}
-use Rattle.nook_data.specs.declared.machine.Mnemonic.TheVariants as mnemonic
 use Rattle.asm_defs.specs.declared.assembler.Operands.{Operands}
 use Rattle.asm_defs.specs.declared.assembler.Section.TheVariants as section
 use Rattle.asm_defs.specs.declared.assembler.Statement.TheVariants as statement
@@ -20,94 +23,33 @@ use Rattle.asm_defs.specs.declared.assembler.TokenKind.TheVariants as kind
 use Rattle.asm_defs.specs.declared.assembler.Value.TheVariants as value
 use Rattle.nook_data.specs.declared.classes.Class.{Class}
 use Rattle.nook_data.specs.declared.machine.Instr.{Instr}
-use Rattle.nook_data.specs.declared.machine.Instr.TheVariants as instr
-use Rattle.asm_defs.proofs.AsmText.{IsPlainToken}
+use Rattle.asm_defs.proofs.AsmText.{IsPlainToken, is_plain}
 use Rattle.asm_defs.proofs.AsmNumbers.{register_token, register_kind, number_kind}
 
 pub mnemonic_kind : (m : Mnemonic) → kind_of (mnemonic_text m) ≡ kind.Name
 unfolding kind_of is_label_name
-mnemonic_kind mnemonic.Li = refl
-mnemonic_kind mnemonic.Lui = refl
-mnemonic_kind mnemonic.Mov = refl
-mnemonic_kind mnemonic.Add = refl
-mnemonic_kind mnemonic.Sub = refl
-mnemonic_kind mnemonic.And = refl
-mnemonic_kind mnemonic.Or = refl
-mnemonic_kind mnemonic.Xor = refl
-mnemonic_kind mnemonic.Shl = refl
-mnemonic_kind mnemonic.Shr = refl
-mnemonic_kind mnemonic.Addi = refl
-mnemonic_kind mnemonic.Ld = refl
-mnemonic_kind mnemonic.St = refl
-mnemonic_kind mnemonic.Jmp = refl
-mnemonic_kind mnemonic.Beq = refl
-mnemonic_kind mnemonic.Bne = refl
-mnemonic_kind mnemonic.Blt = refl
-mnemonic_kind mnemonic.Jal = refl
-mnemonic_kind mnemonic.Jr = refl
-mnemonic_kind mnemonic.In = refl
-mnemonic_kind mnemonic.Out = refl
-mnemonic_kind mnemonic.Kcall = refl
-mnemonic_kind mnemonic.Ret = refl
-mnemonic_kind mnemonic.Fault = refl
+mnemonic_kind m = rw (each (λ m. is_label_name (mnemonic_text m)) refl m) refl
+
+-- the mnemonic that is found by a text has the number of the mnemonic with that text
+has_number : Option Mnemonic → Mnemonic → Bool
+has_number None m = false
+has_number (Some found) m = (instruction_row found).number == (instruction_row m).number
+
+number_found : (o : Option Mnemonic) (m : Mnemonic) → has_number o m ≡ true → o ≡ Some m
+unfolding has_number
+number_found None m e = absurd (false≢true e)
+number_found (Some found) m e = ap Some (same_number found m (eqb-true (instruction_row found).number (instruction_row m).number e))
 
 pub named_mnemonic : (m : Mnemonic) → mnemonic_named (mnemonic_text m) ≡ Some m
-unfolding mnemonic_named
-named_mnemonic mnemonic.Li = refl
-named_mnemonic mnemonic.Lui = refl
-named_mnemonic mnemonic.Mov = refl
-named_mnemonic mnemonic.Add = refl
-named_mnemonic mnemonic.Sub = refl
-named_mnemonic mnemonic.And = refl
-named_mnemonic mnemonic.Or = refl
-named_mnemonic mnemonic.Xor = refl
-named_mnemonic mnemonic.Shl = refl
-named_mnemonic mnemonic.Shr = refl
-named_mnemonic mnemonic.Addi = refl
-named_mnemonic mnemonic.Ld = refl
-named_mnemonic mnemonic.St = refl
-named_mnemonic mnemonic.Jmp = refl
-named_mnemonic mnemonic.Beq = refl
-named_mnemonic mnemonic.Bne = refl
-named_mnemonic mnemonic.Blt = refl
-named_mnemonic mnemonic.Jal = refl
-named_mnemonic mnemonic.Jr = refl
-named_mnemonic mnemonic.In = refl
-named_mnemonic mnemonic.Out = refl
-named_mnemonic mnemonic.Kcall = refl
-named_mnemonic mnemonic.Ret = refl
-named_mnemonic mnemonic.Fault = refl
+unfolding mnemonic_named has_number
+named_mnemonic m = number_found (mnemonic_named (mnemonic_text m)) m
+    (each (λ m. has_number (mnemonic_named (mnemonic_text m)) m) refl m)
 
 pub mnemonic_token : (m : Mnemonic) → IsPlainToken (mnemonic_text m)
-mnemonic_token mnemonic.Li = record { bytes = refl; some = refl }
-mnemonic_token mnemonic.Lui = record { bytes = refl; some = refl }
-mnemonic_token mnemonic.Mov = record { bytes = refl; some = refl }
-mnemonic_token mnemonic.Add = record { bytes = refl; some = refl }
-mnemonic_token mnemonic.Sub = record { bytes = refl; some = refl }
-mnemonic_token mnemonic.And = record { bytes = refl; some = refl }
-mnemonic_token mnemonic.Or = record { bytes = refl; some = refl }
-mnemonic_token mnemonic.Xor = record { bytes = refl; some = refl }
-mnemonic_token mnemonic.Shl = record { bytes = refl; some = refl }
-mnemonic_token mnemonic.Shr = record { bytes = refl; some = refl }
-mnemonic_token mnemonic.Addi = record { bytes = refl; some = refl }
-mnemonic_token mnemonic.Ld = record { bytes = refl; some = refl }
-mnemonic_token mnemonic.St = record { bytes = refl; some = refl }
-mnemonic_token mnemonic.Jmp = record { bytes = refl; some = refl }
-mnemonic_token mnemonic.Beq = record { bytes = refl; some = refl }
-mnemonic_token mnemonic.Bne = record { bytes = refl; some = refl }
-mnemonic_token mnemonic.Blt = record { bytes = refl; some = refl }
-mnemonic_token mnemonic.Jal = record { bytes = refl; some = refl }
-mnemonic_token mnemonic.Jr = record { bytes = refl; some = refl }
-mnemonic_token mnemonic.In = record { bytes = refl; some = refl }
-mnemonic_token mnemonic.Out = record { bytes = refl; some = refl }
-mnemonic_token mnemonic.Kcall = record { bytes = refl; some = refl }
-mnemonic_token mnemonic.Ret = record { bytes = refl; some = refl }
-mnemonic_token mnemonic.Fault = record { bytes = refl; some = refl }
-
-pub record InRange (f : Fields) : Type 0 where
-  pub low_a : f.a < 16
-  pub low_b : f.b < 16
-  pub low_imm : f.imm < 2 ^ 16
+mnemonic_token m = record {
+  bytes = each (λ m. list_all is_plain (mnemonic_text m)) refl m;
+  some = each (λ m. is_not_empty (mnemonic_text m)) refl m;
+}
 
 -- the operands that a form reads
 pub used : Form → Fields → Operands
@@ -152,55 +94,34 @@ unfolding line_says statement_of
 instr_says labels class f h =
     rw (mnemonic_kind f.mnemonic, none_bad (form_of f.mnemonic) f h, mnemonic_kind f.mnemonic, named_mnemonic f.mnemonic, operands_written labels (form_of f.mnemonic) f h, statement_of) refl
 
-pub stated : (m : Mnemonic) (f : Fields) (draft : Draft) → with_statement (statement.Instr m (used (form_of m) f)) draft ≡ with_word draft.in_section (encode_of (instr_with m f.a f.b f.imm)) draft
-unfolding used
-stated mnemonic.Li f draft = refl
-stated mnemonic.Lui f draft = refl
-stated mnemonic.Mov f draft = refl
-stated mnemonic.Add f draft = refl
-stated mnemonic.Sub f draft = refl
-stated mnemonic.And f draft = refl
-stated mnemonic.Or f draft = refl
-stated mnemonic.Xor f draft = refl
-stated mnemonic.Shl f draft = refl
-stated mnemonic.Shr f draft = refl
-stated mnemonic.Addi f draft = refl
-stated mnemonic.Ld f draft = refl
-stated mnemonic.St f draft = refl
-stated mnemonic.Jmp f draft = refl
-stated mnemonic.Beq f draft = refl
-stated mnemonic.Bne f draft = refl
-stated mnemonic.Blt f draft = refl
-stated mnemonic.Jal f draft = refl
-stated mnemonic.Jr f draft = refl
-stated mnemonic.In f draft = refl
-stated mnemonic.Out f draft = refl
-stated mnemonic.Kcall f draft = refl
-stated mnemonic.Ret f draft = refl
-stated mnemonic.Fault f draft = refl
+-- the operands of a form are those of the mnemonic
+pub fields_mnemonic : (m : Mnemonic) (x : Form) (a b imm : ℕ) → (fields_in m x a b imm).mnemonic ≡ m
+fields_mnemonic m form.Bare a b imm = refl
+fields_mnemonic m form.A a b imm = refl
+fields_mnemonic m form.Imm a b imm = refl
+fields_mnemonic m form.AB a b imm = refl
+fields_mnemonic m form.AImm a b imm = refl
+fields_mnemonic m form.ABImm a b imm = refl
 
-pub instr_of_fields : (i : Instr) → instr_with (fields_of i).mnemonic (fields_of i).a (fields_of i).b (fields_of i).imm ≡ i
-instr_of_fields (instr.Li a imm) = refl
-instr_of_fields (instr.Lui a imm) = refl
-instr_of_fields (instr.Mov a b) = refl
-instr_of_fields (instr.Add a b) = refl
-instr_of_fields (instr.Sub a b) = refl
-instr_of_fields (instr.And a b) = refl
-instr_of_fields (instr.Or a b) = refl
-instr_of_fields (instr.Xor a b) = refl
-instr_of_fields (instr.Shl a b) = refl
-instr_of_fields (instr.Shr a b) = refl
-instr_of_fields (instr.Addi a b imm) = refl
-instr_of_fields (instr.Ld a b imm) = refl
-instr_of_fields (instr.St a b imm) = refl
-instr_of_fields (instr.Jmp imm) = refl
-instr_of_fields (instr.Beq a b imm) = refl
-instr_of_fields (instr.Bne a b imm) = refl
-instr_of_fields (instr.Blt a b imm) = refl
-instr_of_fields (instr.Jal a imm) = refl
-instr_of_fields (instr.Jr a) = refl
-instr_of_fields (instr.In a imm) = refl
-instr_of_fields (instr.Out a imm) = refl
-instr_of_fields (instr.Kcall imm) = refl
-instr_of_fields (instr.Ret a) = refl
-instr_of_fields instr.Fault = refl
+-- the operands that its form reads make the instruction
+used_instr : (m : Mnemonic) (a b imm : ℕ)
+    → instr_with m (fields_in m (form_of m) a b imm).a (fields_in m (form_of m) a b imm).b (fields_in m (form_of m) a b imm).imm
+    ≡ instr_with m a b imm
+used_instr m a b imm =
+    ap (λ n. instr_with n (fields_in m (form_of m) a b imm).a (fields_in m (form_of m) a b imm).b (fields_in m (form_of m) a b imm).imm)
+    (sym (fields_mnemonic m (form_of m) a b imm))
+    ∙ (ap (λ (f : Fields). instr_with f.mnemonic f.a f.b f.imm) (sym (fields_back m a b imm)) ∙ instr_of_fields (instr_with m a b imm))
+
+stated_of : (m : Mnemonic) (x : Form) (f : Fields) (draft : Draft) → with_statement (statement.Instr m (used x f)) draft
+    ≡ with_word draft.in_section (encode_of (instr_with m (fields_in m x f.a f.b f.imm).a (fields_in m x f.a f.b f.imm).b (fields_in m x f.a f.b f.imm).imm)) draft
+unfolding used
+stated_of m form.Bare f draft = refl
+stated_of m form.A f draft = refl
+stated_of m form.Imm f draft = refl
+stated_of m form.AB f draft = refl
+stated_of m form.AImm f draft = refl
+stated_of m form.ABImm f draft = refl
+
+pub stated : (m : Mnemonic) (f : Fields) (draft : Draft) → with_statement (statement.Instr m (used (form_of m) f)) draft ≡ with_word draft.in_section (encode_of (instr_with m f.a f.b f.imm)) draft
+stated m f draft = stated_of m (form_of m) f draft
+    ∙ ap (λ i. with_word draft.in_section (encode_of i) draft) (used_instr m f.a f.b f.imm)

@@ -27,9 +27,9 @@ use Rattle.asm_defs.specs.declared.keys.Key.{Key}
 use Rattle.nook_data.specs.declared.machine.Instr.{Instr}
 use Rattle.asm_defs.proofs.AsmText.{IsPlainToken, ArePlain, IsLine}
 use Rattle.asm_defs.proofs.AsmNumbers.{register_plain, number_kind, number_token}
-use Rattle.asm_defs.proofs.AsmInstrs.{InRange, mnemonic_kind, mnemonic_token, in_range, instr_says, stated}
-use Rattle.asm_defs.proofs.AsmInstrs.{instr_of_fields}
-use Rattle.asm_defs.proofs.AsmDecoded.{decoded}
+use Rattle.machine_defs.proofs.Instructions.{instr_of_fields}
+use Rattle.machine_defs.proofs.Words.{InRange, decoded}
+use Rattle.asm_defs.proofs.AsmInstrs.{mnemonic_kind, mnemonic_token, in_range, instr_says, stated}
 
 abbrev pub draft : Class → List (Option ℕ) → Section → List ℕ → List ℕ → Draft
 draft c e s t i = record { class = Some c; entries = e; in_section = s; text = t; initial = i }

@@ -1,4 +1,3 @@
-pub mod AsmDecoded
 pub mod AsmInstrs
 pub mod AsmNumbers
 pub mod AsmSteps

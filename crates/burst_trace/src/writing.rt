@@ -25,6 +25,15 @@ use sim_run::{FoundBurst, run_to_burst};
 use std::alloc::Global;
 use turn_trace::{trace_burst, write_start, write_unstruck};
 
+/// A burst to be traced: the first line of its trace, its event, its number and its context.
+#[derive(Drop)]
+struct Traced<'a> {
+    head: &'a Line,
+    event: &'a Event,
+    burst: u32,
+    context: u8,
+}
+
 /// Writes the trace of burst number `burst` of part `index`, counted from 0, in the scheduled run of a valid
 /// scenario: the state at its start, a line for each instruction and each fault that strikes, how it ends, and the
 /// faults that do not strike. Returns whether the run has such a part with such a burst; if not, nothing is written.
@@ -93,30 +102,34 @@ fn write_event<K: Sink>(
             ..
         } => {
             let head = head_of(alloc, index, spec, *burst, *context, *call)?;
-            write_part(alloc, &head, event, spec, domain, *burst, *context, sink)
+            let traced = Traced {
+                head: &head,
+                event,
+                burst: *burst,
+                context: *context,
+            };
+            write_part(alloc, &traced, spec, domain, sink)
         }
         _ => Ok(false),
     }
 }
 
-/// Writes the trace of a part's burst after the given first line.
+/// Writes the trace of a part's burst.
 fn write_part<K: Sink>(
     alloc: Global,
-    head: &Line,
-    event: &Event,
+    traced: &Traced,
     spec: &PartSpec,
     domain: Domain,
-    burst: u32,
-    context: u8,
     sink: &mut K,
 ) -> Result<bool, WriteStop>
     ensures written { WroteTrace (change K.held K.count sink.old sink.new) result
-        (part_lines head.now (event_end event.now) burst context spec.now domain.state) }
+        (part_lines traced.now.head.now (event_end traced.now.event.now) traced.now.burst
+        traced.now.context spec.now domain.state) }
     ensures untouched { result ≡ Ok false → sink.new ≡ sink.old }
 {
     let script = script_of(alloc, spec)?;
-    let faults = script.faults_at(burst);
-    write_domain(alloc, head, event, domain, faults, context, sink)
+    let faults = script.faults_at(traced.burst);
+    write_domain(alloc, traced, domain, faults, sink)
 }
 
 /// The faults of a part in the order in which they strike.
@@ -127,47 +140,45 @@ fn script_of(alloc: Global, spec: &PartSpec) -> Result<FaultScript, NoMemory>
     FaultScript::new(spec.faults.copy(alloc)?)
 }
 
-/// Writes the trace of a domain's burst after the given first line, if the context is Inside.
+/// Writes the trace of a domain's burst, if the context is Inside.
 #[tactic(auto, using(crate::proofs::Reporting::domain_cut, crate::proofs::Reporting::domain_reported, crate::proofs::Reporting::domain_untold))]
 fn write_domain<K: Sink>(
     alloc: Global,
-    head: &Line,
-    event: &Event,
+    traced: &Traced,
     domain: Domain,
     faults: &[Fault],
-    context: u8,
     sink: &mut K,
 ) -> Result<bool, WriteStop>
     ensures written { WroteTrace (change K.held K.count sink.old sink.new) result
-        (trace_by head.now (event_end event.now) faults.now domain.state
-        (inside_of context domain.state)) }
+        (trace_by traced.now.head.now (event_end traced.now.event.now) faults.now domain.state
+        (inside_of traced.now.context domain.state)) }
     ensures untouched { result ≡ Ok false → sink.new ≡ sink.old }
 {
-    match inside_of(&domain, context) {
+    match inside_of(&domain, traced.context) {
         Some(inside) => {
-            write_inside(alloc, head, event, &inside, domain, faults, sink)?;
+            write_inside(alloc, traced, &inside, domain, faults, sink)?;
             Ok(true)
         }
         None => Ok(false),
     }
 }
 
-/// Writes the trace of a context's burst after the given first line.
+/// Writes the trace of a context's burst.
 fn write_inside<K: Sink>(
     alloc: Global,
-    head: &Line,
-    event: &Event,
+    traced: &Traced,
     inside: &Context,
     domain: Domain,
     faults: &[Fault],
     sink: &mut K,
 ) -> Result<(), WriteStop>
     ensures { Wrote (change K.held K.count sink.old sink.new) result
-        (trace_lines head.now (event_end event.now) inside.now faults.now domain.state) }
+        (trace_lines traced.now.head.now (event_end traced.now.event.now) inside.now faults.now
+        domain.state) }
 {
-    write_text(sink, head)?;
+    write_text(sink, traced.head)?;
     let unstruck = write_burst(alloc, inside, domain, faults, sink)?;
-    write_last(alloc, event, unstruck, sink)
+    write_last(alloc, traced.event, unstruck, sink)
 }
 
 /// Writes the state at the start of a context's burst, and its steps as they are taken. Returns the faults that do not

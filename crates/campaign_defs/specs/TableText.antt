@@ -56,7 +56,7 @@ plan_row_line number row =
     decimal number ++ (counts_text row.counts ++ (detail_text row.detail ++ (traps_text row.traps
     ++ (cause_words row.detail ++ line_feed))))
 
--- the lines of rows; the first row has number `place`
+-- the lines of rows, numbered from `number` on
 abbrev pub plan_row_lines : ℕ → List Row → List ℕ
 plan_row_lines number [] = []
 plan_row_lines number (row ∷ rows) = plan_row_line number row ++ plan_row_lines (suc number) rows

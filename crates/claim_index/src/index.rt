@@ -33,7 +33,8 @@ impl Model for ClaimIndex {
 
     ghost view = { λ s. s.open.items };
 
-    ghost invariant = { λ s. AreRising 0 s.open.items × HaveBlocks s.open.items × AreClaimantsOf s.open.items s.claimants };
+    ghost invariant = { λ s. AreRising 0 s.open.items × HaveBlocks s.open.items
+        × AreClaimantsOf s.open.items s.claimants };
 }
 
 impl ClaimIndex {

@@ -20,7 +20,8 @@ pub fn conflicts(class: Class, first: &Op, second: &Op) -> bool
 
 /// A law: the order of the two operations does not matter.
 pub fn conflicts_are_symmetric()
-    ensures { (class : Class) (first second : Op) → conflicts class first second ≡ conflicts class second first }
+    ensures { (class : Class) (first second : Op)
+        → conflicts class first second ≡ conflicts class second first }
 {}
 
 /// Two operations of the class, neither of them a Set.

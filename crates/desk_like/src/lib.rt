@@ -54,7 +54,8 @@ pub trait DeskLike: Sync {
         ensures seat { is_seat self.now seat.new }
         ensures run { IsRun (spec self.now) (view seat.new).seen }
         ensures accounts { Accounts (view seat.new) }
-        ensures ends { CallEnds (spec self.now) (view seat.old) (view seat.new) thread op.now result }
+        ensures ends { CallEnds (spec self.now) (view seat.old) (view seat.new)
+            thread op.now result }
         ensures clocked { Clocked (view seat.new) }
         ensures ticks { Ticks (view seat.old) (view seat.new) };
 

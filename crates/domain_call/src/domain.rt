@@ -215,7 +215,8 @@ impl TryCopy for Domain {
 
 /// The device of a new part.
 fn device_of(alloc: Global, spec: &PartSpec) -> Result<Device, NoMemory>
-    ensures { IfOk result (λ made. made ≡ opening_device spec.now.class spec.now.blocks spec.now.bad (defaults_of spec.now.class)) }
+    ensures { IfOk result (λ made. made ≡ opening_device spec.now.class spec.now.blocks
+        spec.now.bad (defaults_of spec.now.class)) }
 {
     match spec.class {
         Class::Block => Device::disk(alloc, spec.blocks, &spec.bad),

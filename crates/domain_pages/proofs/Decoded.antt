@@ -1,5 +1,5 @@
 -- How the decoded entries follow from the words of the text.
-use Rattle.std.proofs.Common.{◌≡◌, ◌≢◌, ◌⊎◌, inl, inr, ℕ, zero, suc, ◌+◌, ◌<◌, ◌≤◌, List, [], ◌∷◌, Option, Some, None, length, get_or, map, set, replicate, slice_index, slice_index_or, arith, refl, sym, ap, ◌∙◌}
+use Rattle.std.proofs.Common.{◌≡◌, ◌≢◌, ◌⊎◌, inl, inr, ℕ, zero, suc, ◌+◌, ◌<◌, ◌≤◌, List, [], ◌∷◌, Some, None, length, get_or, map, set, replicate, arith, refl, sym, ap, ◌∙◌}
 use Rattle.std.specs.Option.{option_map}
 use Rattle.std.proofs.lemmas.Bool.{cases_eq, cases_lt}
 use Rattle.std.proofs.lemmas.List.{get_or_past, get_or-set_same, get_or-set_other, length-replicate, length-set, set_past, with_items_is}
@@ -7,11 +7,10 @@ use Rattle.std.specs.Global.{Vec}
 use Rattle.std.specs.Vec.{with_items}
 use Rattle.driver_isa.specs.Decoding.{instr_of}
 use Rattle.driver_isa.specs.Steps.{fetched}
-use Rattle.driver_isa.specs.declared.decoded.Decoded.{Decoded}
+use Rattle.driver_isa.specs.declared.instructions.Decoded.{Decoded}
 use Rattle.machine_defs.specs.Machine.{decode_of}
 use Rattle.machine_defs.specs.Pages.{fetch_word}
 use Rattle.domain_pages.specs.Decoding.{IsDecoded, IsDecodedAt}
-use Rattle.domain_pages.specs.Frames.{IsEndOfText}
 
 instrs_set : (ds : List Decoded) (a : ℕ) (d : Decoded) → map instr_of (set ds a d) ≡ set (map instr_of ds) a (instr_of d)
 instrs_set [] a d = refl
@@ -97,14 +96,6 @@ kept_outside ds text other start count end e size long same past k out = same_wo
     | inl more ↦ same k (inr more)
     | inr high ↦ get_or_past other k 0 (omega (arith, long, high)) ∙ sym (get_or_past text k 0 (omega (arith, size, high)))
   ]
-])
-
--- the entries after the ends of the former text and of the new one
-pub kept_past : (ds : List Decoded) (text other : List ℕ) (was now end : ℕ) → IsDecoded ds text → IsEndOfText was text → IsEndOfText now other → was ≤ end → now ≤ end
-    → (k : ℕ) → (k < 0) ⊎ (end ≤ k) → IsDecodedAt ds other k
-kept_past ds text other was now end e before after some more k out = same_word_at ds text other k e (elim out [
-  | inl none ↦ absurd (omega (arith, none))
-  | inr past ↦ after.zeros k (omega (arith, more, past)) ∙ sym (before.zeros k (omega (arith, some, past)))
 ])
 
 -- what is fetched

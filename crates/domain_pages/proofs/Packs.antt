@@ -1,13 +1,13 @@
 -- Frames are kept packed: all words come back.
-use Rattle.std.proofs.Common.{◌≡◌, ◌≢◌, ◌⊎◌, inl, inr, ℕ, zero, suc, ◌+◌, ◌-◌, ◌*◌, ◌/◌, ◌<◌, ◌≤◌, Bool, true, false, List, [], ◌∷◌, ◌++◌, append-nil, append_assoc, length, get_or, set, take, drop, replicate, slice_index, slice_index_or, slice_range, arith, refl, sym, ap, ap₂, ◌∙◌}
+use Rattle.std.proofs.Common.{◌≡◌, ◌≢◌, ◌⊎◌, inl, inr, ℕ, zero, suc, ◌+◌, ◌-◌, ◌*◌, ◌/◌, ◌<◌, ◌≤◌, Bool, true, false, List, [], ◌∷◌, ◌++◌, append-nil, append_assoc, length, get_or, set, take, drop, replicate, slice_index_or, slice_range, arith, refl, sym, ap, ap₂, ◌∙◌}
 use Rattle.std.proofs.lemmas.Bool.{cases_Bool, cases_lt}
 use Rattle.std.proofs.Math.Seq.{drop-cons}
-use Rattle.std.proofs.lemmas.List.{drop-drop, get_or_append_left, get_or-append_right, get_or-drop, get_or-replicate, get_or-take, length-append, length-drop, get_or-set_other, get_or_past, length-replicate, length-take-le}
-use Rattle.driver_isa.specs.declared.decoded.Decoded.{Decoded}
+use Rattle.std.proofs.lemmas.List.{drop-drop, get_or_append_left, get_or-append_right, get_or-drop, get_or-take, length-append, length-drop, get_or-set_other, get_or_past, length-replicate, length-take-le}
+use Rattle.driver_isa.specs.declared.instructions.Decoded.{Decoded}
 use Rattle.domain_pages.specs.Decoding.{IsDecoded}
-use Rattle.domain_pages.specs.Frames.{image_word, word_at, shown, IsFramed, IsEndOfText, IsText}
+use Rattle.domain_pages.specs.Frames.{word_at, shown, IsFramed, IsEndOfText, IsText}
 use Rattle.domain_pages.specs.Packed.{frame_words, packed, unpacked, IsPacked}
-use Rattle.domain_pages.proofs.Shown.{image_high, image_low, length-shown, length-with_words, map_of, padded_at, shown_at, shown_by, words_at}
+use Rattle.domain_pages.proofs.Shown.{image_high, image_low, length-shown, map_of, padded_at, shown_at, shown_by, words_at}
 use Rattle.machine_defs.specs.Pages.{padded_words, with_words}
 use Rattle.machine_defs.proofs.Padded.{length-padded_words}
 
@@ -271,25 +271,18 @@ packed_shows table frames text initial end pages f e =
 
 -- ---- a map is unpacked
 
--- the text, followed by zeros, overwrites another text
-pub text_again : (was words now : List ℕ) (end more : ℕ) → length was ≡ 2048 → IsEndOfText end was → end ≤ more → length words ≤ more → more ≤ 2048
-    → now ≡ with_words 0 (padded_words more words) was → (k : ℕ) → get_or now k 0 ≡ get_or words k 0
-text_again was words now end more size e some fits within is k =
-    let full : length (padded_words more words) ≡ more = length-padded_words more words fits in
-    let at = words_at 0 (padded_words more words) was k (omega (arith, full, size)) in
-    ap (λ xs. get_or xs k 0) is ∙ elim (cases_lt k more) [
-      | inl low ↦ at.1 (omega arith) (omega (arith, full, low)) ∙ ap (λ i. get_or (padded_words more words) i 0) (none k) ∙ padded_at more words k low
-      | inr past ↦ at.2 (omega (arith, full, past)) ∙ e.zeros k (omega arith) ∙ sym (get_or_past words k 0 (omega arith))
-    ]
-  where
-    none : (n : ℕ) → n - 0 ≡ n
-    none n = omega arith
+-- words, followed by zeros, overwrite a text
+pub text_again : (was words now : List ℕ) (end more : ℕ) → IsEndOfText end was → end ≤ more → length words ≤ more
+    → ((k : ℕ) → k < more → get_or now k 0 ≡ get_or words k 0)
+    → ((k : ℕ) → more ≤ k → get_or now k 0 ≡ get_or was k 0)
+    → (k : ℕ) → get_or now k 0 ≡ get_or words k 0
+text_again was words now end more e some fits inside outside k = elim (cases_lt k more) [
+  | inl low ↦ inside k low
+  | inr past ↦ outside k past ∙ e.zeros k (omega arith) ∙ sym (get_or_past words k 0 (omega arith))
+]
 
-pub length-text_again : (was words now : List ℕ) (end more : ℕ) → length was ≡ 2048 → length words ≤ more → more ≤ 2048
-    → now ≡ with_words 0 (padded_words more words) was → length now ≡ 2048
-length-text_again was words now end more size fits within is =
-    let full : length (padded_words more words) ≡ more = length-padded_words more words fits in
-    ap length is ∙ length-with_words 0 (padded_words more words) was (omega (arith, full, size)) ∙ size
+pub end_again : (words now : List ℕ) → length words ≤ 2048 → ((k : ℕ) → get_or now k 0 ≡ get_or words k 0) → IsEndOfText (length words) now
+end_again words now short same = record { within = short; zeros = λ k past. same k ∙ get_or_past words k 0 past }
 
 pub is_map_again : (table : List Bool) (words frames text texts initial : List ℕ) → IsPacked table words text initial → length frames ≡ 8192 → length texts ≡ 2048
     → ((k : ℕ) → k < 8192 → slice_index_or table (k / 64) false ≡ true → get_or frames k 0 ≡ get_or (unpacked table words) k 0)
@@ -301,7 +294,7 @@ is_map_again table words frames text texts initial p size long same fetched = (
     size = long;
     same = λ k low. shown_alike table (unpacked table words) frames text texts initial same fetched k (omega arith) ∙ p.same k low ∙ sym (fetched k);
   },
-  record { within = p.short; zeros = λ k past. fetched k ∙ get_or_past text k 0 past },
+  end_again text texts p.short fetched,
 )
 
 pub map_again : (table : List Bool) (words frames text texts initial : List ℕ) (lent : List Bool)
@@ -359,15 +352,6 @@ end_of_zeros n = record { within = omega arith; zeros = λ k past. zero_at n k }
     zero_at zero k = refl
     zero_at (suc n) zero = refl
     zero_at (suc n) (suc k) = zero_at n k
-
-pub end_of_loaded : (text : List ℕ) (texts : List ℕ) → length text ≤ 2048 → texts ≡ padded_words 2048 text → IsEndOfText (length text) texts
-end_of_loaded text texts short is = rw is (record {
-  within = short;
-  zeros = λ k past. elim (cases_lt k 2048) [
-    | inl low ↦ padded_at 2048 text k low ∙ get_or_past text k 0 past
-    | inr high ↦ get_or_past (padded_words 2048 text) k 0 (omega (arith, length-padded_words 2048 text short, high))
-  ];
-})
 
 -- a vector's items, returned as they are in the slices that were lent
 pub with_back : (now : List Bool) (items own texts text initial : List ℕ) (next : ℕ) (decoded entries : List Decoded) → items ≡ own → texts ≡ text → decoded ≡ entries

@@ -1,16 +1,14 @@
 -- How the words of text follow from the frames, the table and the image.
-use Rattle.std.proofs.Common.{◌≡◌, ◌⊎◌, inl, inr, Some, ℕ, ◌+◌, ◌/◌, ◌<◌, ◌≤◌, if◌then◌else◌, Bool, true, false, List, [], ◌++◌, length, get_or, set, replicate, slice_index, slice_index_or, arith, refl, sym, ap, ◌∙◌}
+use Rattle.std.proofs.Common.{◌≡◌, ◌⊎◌, inl, inr, Some, ℕ, ◌+◌, ◌/◌, ◌<◌, ◌≤◌, if◌then◌else◌, Bool, true, false, List, [], length, get_or, set, replicate, slice_index, slice_index_or, arith, refl, sym, ap, ◌∙◌}
 use Rattle.std.proofs.lemmas.Bool.{cases_eq, cases_lt}
-use Rattle.std.proofs.lemmas.List.{append-nil, drop_all, get_or-replicate, get_or_past, get_or-set_same, get_or-set_other, length-set}
-use Rattle.std.specs.Global.{Vec}
-use Rattle.std.specs.Vec.{with_items}
+use Rattle.std.proofs.lemmas.List.{get_or-replicate, get_or_past, get_or-set_same, get_or-set_other, length-set}
 use Rattle.nook_data.specs.declared.scenario.Image.{Image}
 use Rattle.machine_defs.specs.Views.PageMap.{pages_loaded}
 use Rattle.machine_defs.specs.Pages.{fetch_word, opening_memory, padded_words, with_words}
 use Rattle.machine_defs.proofs.Padded.{length-padded_words}
 use Rattle.domain_pages.specs.Frames.{word_at, shown, opening_table, IsFramed, IsText}
 use Rattle.domain_pages.proofs.Own.{AreMarked, has_here}
-use Rattle.domain_pages.proofs.Shown.{image_high, image_low, items_back, length-shown, map_of, padded_at, shown_at, shown_by, shown_loaded, shown_opening, table_low, take_opening, words_at}
+use Rattle.domain_pages.proofs.Shown.{image_high, image_low, length-shown, map_of, shown_at, shown_by, shown_loaded, shown_opening, table_low, take_opening, words_at}
 
 pub text_opening : (frames text initial : List ℕ) → length text ≡ 2048 → IsText opening_table frames text initial
 text_opening frames text initial size = record {
@@ -49,22 +47,10 @@ shown_zeros frames begun =
     shown_same opening_table frames [] (replicate 2048 0) [] (λ k low. inl (get_or-replicate 2048 k 0 0 low ∙ sym (get_or_past [] k 0 (omega arith))))
     ∙ shown_opening frames begun
 
-loaded_text : (old text : List ℕ) → length old ≡ 2048 → length text ≤ 2048 → with_words 0 (padded_words 2048 text) old ≡ padded_words 2048 text
-loaded_text old text size short =
-    let full : length (padded_words 2048 text) ≡ 2048 = length-padded_words 2048 text short in
-    ap (λ rest. padded_words 2048 text ++ rest) (drop_all (0 + length (padded_words 2048 text)) old (omega (arith, full, size)))
-    ∙ append-nil (padded_words 2048 text)
-
-pub text_loaded : (v : Vec ℕ) (w text : List ℕ) → length v.items ≡ 2048 → length text ≤ 2048 → w ≡ with_words 0 (padded_words 2048 text) v.items → (with_items v w).items ≡ padded_words 2048 text
-text_loaded v w text size short at =
-    let done = at ∙ loaded_text v.items text size short in
-    items_back 2048 v w size (ap length done ∙ length-padded_words 2048 text short) ∙ done
-
-pub pages_with : (table : List Bool) (frames text texts initial : List ℕ) (lent : List Bool) (image : Image) → IsFramed table frames → length image.text ≤ 2048 → length image.initial ≤ 2048 → texts ≡ padded_words 2048 image.text → map_of opening_table frames texts image.initial lent ≡ pages_loaded image (map_of table frames text initial lent)
-pages_with table frames text texts initial lent image f short small done =
+pub pages_with : (table : List Bool) (frames text texts initial : List ℕ) (lent : List Bool) (image : Image) → IsFramed table frames → length image.text ≤ 2048 → length image.initial ≤ 2048 → ((k : ℕ) → get_or texts k 0 ≡ get_or image.text k 0) → map_of opening_table frames texts image.initial lent ≡ pages_loaded image (map_of table frames text initial lent)
+pages_with table frames text texts initial lent image f short small same =
     rw (
-      done,
-      shown_same opening_table frames image.text (padded_words 2048 image.text) image.initial (λ k low. inl (padded_at 2048 image.text k low)),
+      shown_same opening_table frames image.text texts image.initial (λ k low. inl (same k)),
       shown_loaded table frames text initial image f short small,
       take_opening,
     ) refl

@@ -1,6 +1,6 @@
 use Rattle.std.specs.Prelude.{◌≡◌, ℕ, List, None, length, map, slice_index, slice_index_or}
 use Rattle.driver_isa.specs.Decoding.{instr_of}
-use Rattle.driver_isa.specs.declared.decoded.Decoded.{Decoded}
+use Rattle.driver_isa.specs.declared.instructions.Decoded.{Decoded}
 use Rattle.machine_defs.specs.Machine.{decode_of}
 use Rattle.nook_data.specs.declared.memory_map.TheConstants.{TEXT_WORDS}
 

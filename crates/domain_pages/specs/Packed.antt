@@ -1,4 +1,4 @@
-use Rattle.std.specs.Prelude.{◌≡◌, ℕ, ◌+◌, ◌/◌, ◌<◌, ◌≤◌, Bool, true, false, List, [], ◌∷◌, ◌++◌, drop, length, replicate, slice_index, take}
+use Rattle.std.specs.Prelude.{◌≡◌, ℕ, ◌+◌, ◌<◌, ◌≤◌, Bool, true, false, List, [], ◌∷◌, ◌++◌, drop, length, replicate, slice_index, take}
 use Rattle.nook_data.specs.declared.memory_map.TheConstants.{PAGE_WORDS, TEXT_WORDS}
 use Rattle.domain_pages.specs.Frames.{word_at, IsFramed}
 

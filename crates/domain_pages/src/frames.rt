@@ -17,8 +17,15 @@ const PAGE_LEN: usize = PAGE_WORDS as usize;
 /// The words of text, as a length.
 const TEXT_LEN: usize = TEXT_WORDS as usize;
 
+/// Consecutive addresses: the first one, and how many they are.
+#[derive(Clone, Copy)]
+pub struct Span {
+    pub start: usize,
+    pub count: usize,
+}
+
 /// The word at an index, 0 past the end.
-fn word_or_zero(words: &[Word], index: usize) -> Word
+pub fn word_or_zero(words: &[Word], index: usize) -> Word
     ensures { result ≡ slice_index words.now index }
 {
     words.get(index).copied().unwrap_or(0)
@@ -59,8 +66,10 @@ pub fn word_at(
 fn fill_frame(frames: &mut [Word], text: &[Word], initial: &[Word], start: usize)
     requires { start + PAGE_WORDS ≤ length frames.old }
     ensures size { length frames.new ≡ length frames.old }
-    ensures inside { (k : ℕ) → start ≤ k → k < start + PAGE_WORDS → slice_index frames.new k ≡ image_word text.now initial.now k }
-    ensures outside { (k : ℕ) → (k < start) ⊎ (start + PAGE_WORDS ≤ k) → slice_index frames.new k ≡ slice_index frames.old k }
+    ensures inside { (k : ℕ) → start ≤ k → k < start + PAGE_WORDS
+        → slice_index frames.new k ≡ image_word text.now initial.now k }
+    ensures outside { (k : ℕ) → (k < start) ⊎ (start + PAGE_WORDS ≤ k)
+        → slice_index frames.new k ≡ slice_index frames.old k }
 {
     for address in start..start + PAGE_LEN {
         frames[address] = image_word(text, initial, address);
@@ -74,7 +83,8 @@ fn own(table: &mut [bool; PAGES], frames: &mut [Word], text: &[Word], initial: &
     requires frames { length frames.old ≡ MEMORY_WORDS }
     ensures table { table.new ≡ slice_set table.old page true }
     ensures size { length frames.new ≡ MEMORY_WORDS }
-    ensures same { (k : ℕ) → k < MEMORY_WORDS → word_at table.new frames.new text.now initial.now k ≡ word_at table.old frames.old text.now initial.now k }
+    ensures same { (k : ℕ) → k < MEMORY_WORDS → word_at table.new frames.new text.now initial.now k
+        ≡ word_at table.old frames.old text.now initial.now k }
 {
     if !table[page] {
         fill_frame(frames, text, initial, page * PAGE_LEN);
@@ -100,7 +110,8 @@ pub fn put(
     ensures framed { IsFramed table.old frames.old → IsFramed table.new frames.new }
     ensures text { IsText table.new frames.new text.new initial.now }
     ensures changed { text.new ≡ slice_set text.old address word }
-    ensures words { shown table.new frames.new text.new initial.now ≡ slice_set (shown table.old frames.old text.old initial.now) address word }
+    ensures words { shown table.new frames.new text.new initial.now
+        ≡ slice_set (shown table.old frames.old text.old initial.now) address word }
 {
     put_in_frame(table, frames, text, initial, address, word);
     put_in_text(text, address, word);
@@ -141,7 +152,8 @@ fn put_in_frame(
     ensures table { table.new ≡ slice_set table.old (address / PAGE_WORDS) true }
     ensures size { length frames.new ≡ MEMORY_WORDS }
     ensures framed { IsFramed table.old frames.old → IsFramed table.new frames.new }
-    ensures words { shown table.new frames.new text.now initial.now ≡ slice_set (shown table.old frames.old text.now initial.now) address word }
+    ensures words { shown table.new frames.new text.now initial.now
+        ≡ slice_set (shown table.old frames.old text.now initial.now) address word }
 {
     own(table, frames, text, initial, address / PAGE_LEN);
     frames[address] = word;
@@ -153,7 +165,8 @@ fn page_end(start: usize, count: usize) -> usize
     requires within { start + count ≤ MEMORY_WORDS }
     ensures least { start / PAGE_WORDS ≤ result }
     ensures most { result ≤ PAGES }
-    ensures pages { (page : ℕ) → has_some start count page ≡ nat_le (start / PAGE_WORDS) page && nat_lt page result }
+    ensures pages { (page : ℕ) → has_some start count page
+        ≡ nat_le (start / PAGE_WORDS) page && nat_lt page result }
 {
     if count == 0 {
         start / PAGE_LEN
@@ -173,9 +186,11 @@ fn own_all(
 )
     requires within { start + count ≤ MEMORY_WORDS }
     requires frames { length frames.old ≡ MEMORY_WORDS }
-    ensures table { (page : ℕ) → page < PAGES → slice_index_or table.new page false ≡ has_some start count page || slice_index_or table.old page false }
+    ensures table { (page : ℕ) → page < PAGES → slice_index_or table.new page false
+        ≡ has_some start count page || slice_index_or table.old page false }
     ensures size { length frames.new ≡ MEMORY_WORDS }
-    ensures same { (k : ℕ) → k < MEMORY_WORDS → word_at table.new frames.new text.now initial.now k ≡ word_at table.old frames.old text.now initial.now k }
+    ensures same { (k : ℕ) → k < MEMORY_WORDS → word_at table.new frames.new text.now initial.now k
+        ≡ word_at table.old frames.old text.now initial.now k }
 {
     for page in start / PAGE_LEN..page_end(start, count) {
         own(table, frames, text, initial, page);
@@ -193,53 +208,59 @@ pub fn write_all(frames: &mut [Word], start: usize, words: &[Word], count: usize
     frames[end..start + count].fill(0);
 }
 
-/// Writes `count` words from an address on: these words, then zeros. Each page gets its frame once, and words of text
-/// are also written to the text.
+/// Writes the words of a span: these words, then zeros. Each page gets its frame once, and words of text are also
+/// written to the text.
 #[tactic(auto, using(crate::proofs::Texts::shown_put_all_text, crate::proofs::Texts::text_put_all))]
 pub fn put_all(
     table: &mut [bool; PAGES],
     frames: &mut [Word],
     text: &mut [Word],
     initial: &[Word],
-    start: usize,
+    span: Span,
     words: &[Word],
-    count: usize,
 )
-    requires within { start + count ≤ MEMORY_WORDS }
+    requires within { span.start + span.count ≤ MEMORY_WORDS }
     requires frames { length frames.old ≡ MEMORY_WORDS }
     requires text { IsText table.old frames.old text.old initial.now }
-    requires fits { length words.now ≤ count }
+    requires fits { length words.now ≤ span.count }
     ensures framed { IsFramed table.old frames.old → IsFramed table.new frames.new }
     ensures text { IsText table.new frames.new text.new initial.now }
-    ensures unchanged { (k : ℕ) → (k < start) ⊎ (start + count ≤ k) → slice_index text.new k ≡ slice_index text.old k }
-    ensures words { shown table.new frames.new text.new initial.now ≡ with_words start (padded_words count words.now) (shown table.old frames.old text.old initial.now) }
-    ensures own { take OWN_PAGES table.new ≡ with_own start count (take OWN_PAGES table.old) }
+    ensures unchanged { (k : ℕ) → (k < span.start) ⊎ (span.start + span.count ≤ k)
+        → slice_index text.new k ≡ slice_index text.old k }
+    ensures words { shown table.new frames.new text.new initial.now
+        ≡ with_words span.start (padded_words span.count words.now)
+        (shown table.old frames.old text.old initial.now) }
+    ensures own { take OWN_PAGES table.new
+        ≡ with_own span.start span.count (take OWN_PAGES table.old) }
 {
-    put_in_frames(table, frames, text, initial, start, words, count);
-    show_text(text, frames, start, count);
+    put_in_frames(table, frames, text, initial, span, words);
+    show_text(text, frames, span.start, span.count);
 }
 
-/// Writes `count` words from an address on, into the frames of their pages.
+/// Writes the words of a span into the frames of their pages.
 fn put_in_frames(
     table: &mut [bool; PAGES],
     frames: &mut [Word],
     text: &[Word],
     initial: &[Word],
-    start: usize,
+    span: Span,
     words: &[Word],
-    count: usize,
 )
-    requires within { start + count ≤ MEMORY_WORDS }
+    requires within { span.start + span.count ≤ MEMORY_WORDS }
     requires frames { length frames.old ≡ MEMORY_WORDS }
-    requires fits { length words.now ≤ count }
+    requires fits { length words.now ≤ span.count }
     ensures framed { IsFramed table.old frames.old → IsFramed table.new frames.new }
     ensures size { length frames.new ≡ MEMORY_WORDS }
-    ensures table { (page : ℕ) → page < PAGES → slice_index_or table.new page false ≡ has_some start count page || slice_index_or table.old page false }
-    ensures words { shown table.new frames.new text.now initial.now ≡ with_words start (padded_words count words.now) (shown table.old frames.old text.now initial.now) }
-    ensures own { take OWN_PAGES table.new ≡ with_own start count (take OWN_PAGES table.old) }
+    ensures table { (page : ℕ) → page < PAGES → slice_index_or table.new page false
+        ≡ has_some span.start span.count page || slice_index_or table.old page false }
+    ensures words { shown table.new frames.new text.now initial.now
+        ≡ with_words span.start (padded_words span.count words.now)
+        (shown table.old frames.old text.now initial.now) }
+    ensures own { take OWN_PAGES table.new
+        ≡ with_own span.start span.count (take OWN_PAGES table.old) }
 {
-    own_all(table, frames, text, initial, start, count);
-    write_all(frames, start, words, count);
+    own_all(table, frames, text, initial, span.start, span.count);
+    write_all(frames, span.start, words, span.count);
 }
 
 /// Copies `count` words from an address on, those that are text, from the frames of their pages into the text.
@@ -248,8 +269,10 @@ fn show_text(text: &mut [Word], frames: &[Word], start: usize, count: usize)
     requires text { length text.old ≡ TEXT_WORDS }
     requires frames { length frames.now ≡ MEMORY_WORDS }
     ensures size { length text.new ≡ TEXT_WORDS }
-    ensures inside { (k : ℕ) → k < TEXT_WORDS → start ≤ k → k < start + count → slice_index text.new k ≡ slice_index frames.now k }
-    ensures outside { (k : ℕ) → (k < start) ⊎ (start + count ≤ k) → slice_index text.new k ≡ slice_index text.old k }
+    ensures inside { (k : ℕ) → k < TEXT_WORDS → start ≤ k → k < start + count
+        → slice_index text.new k ≡ slice_index frames.now k }
+    ensures outside { (k : ℕ) → (k < start) ⊎ (start + count ≤ k)
+        → slice_index text.new k ≡ slice_index text.old k }
 {
     for address in start..TEXT_LEN.min(start + count) {
         text[address] = frames[address];
@@ -284,7 +307,8 @@ pub fn opening_frames(alloc: Global) -> Result<Vec<Word>, NoMemory>
 pub fn frame_of(frames: &[Word], page: usize) -> &[Word]
     requires page { page < PAGES }
     requires frames { length frames.now ≡ MEMORY_WORDS }
-    ensures { result.now ≡ slice_range frames.now (page * PAGE_WORDS) (page * PAGE_WORDS + PAGE_WORDS) }
+    ensures { result.now
+        ≡ slice_range frames.now (page * PAGE_WORDS) (page * PAGE_WORDS + PAGE_WORDS) }
 {
     let start = page * PAGE_LEN;
     &frames[start..start + PAGE_LEN]

@@ -7,8 +7,8 @@ ghost use Rattle.machine_defs.specs.Views.PageMap.{opening_pages, may_change, pa
 ghost use Rattle.machine_defs.specs.Views.PageMap.{pages_loaded};
 ghost use Rattle.domain_pages.specs.Frames.{with_own};
 
-use crate::decoding::{decode_range, put_decoded};
-use crate::frames::{end_after, opening_frames, opening_table, put, put_all, word_at, write_all};
+use crate::decoding::{decode_range, put_decoded, put_text};
+use crate::frames::{Span, end_after, opening_frames, opening_table, put, put_all, word_at};
 use crate::packed::{PackedPages, packed_frames, unpack_frames};
 use driver_isa::{Decoded, decoded_of, instr_of};
 use nook_data::limits::CONTEXTS;
@@ -55,7 +55,8 @@ impl Model for PageMap {
       own = take OWN_PAGES s.table;
     } };
 
-    ghost invariant = { λ s. IsFramed s.table s.frames.items × IsText s.table s.frames.items s.text.items s.initial
+    ghost invariant = { λ s. IsFramed s.table s.frames.items
+        × IsText s.table s.frames.items s.text.items s.initial
         × IsEndOfText s.text_end s.text.items × IsDecoded s.decoded.items s.text.items };
 }
 
@@ -173,7 +174,8 @@ impl PageMap {
     pub fn put_words(&mut self, start: u32, words: &[Word], count: u32)
         requires within { start + count ≤ MEMORY_WORDS }
         requires fits { length words.now ≤ count }
-        ensures words { self.new.words ≡ with_words start (padded_words count words.now) self.old.words }
+        ensures words { self.new.words
+            ≡ with_words start (padded_words count words.now) self.old.words }
         ensures lent { self.new.lent ≡ self.old.lent }
         ensures own { self.new.own ≡ with_own start count self.old.own }
         ensures pages { length self.old.own ≡ OWN_PAGES }
@@ -184,9 +186,11 @@ impl PageMap {
             &mut self.frames,
             &mut self.text,
             self.initial.as_slice(),
-            start as usize,
+            Span {
+                start: start as usize,
+                count: count as usize,
+            },
             words,
-            count as usize,
         );
         let end = TEXT_WORDS.min(start + count) as usize;
         decode_range(&mut self.decoded, self.text.as_slice(), start as usize, end);
@@ -230,14 +234,13 @@ impl PageMap {
         ensures err { OnErr result (self.new ≡ self.old) }
     {
         let initial = image.initial.copy(self.alloc)?;
-        write_all(
-            &mut self.text,
-            0,
-            image.text.as_slice(),
-            TEXT_WORDS as usize,
-        );
         let end = self.text_end.max(image.text.len());
-        decode_range(&mut self.decoded, self.text.as_slice(), 0, end);
+        put_text(
+            &mut self.text,
+            &mut self.decoded,
+            image.text.as_slice(),
+            end,
+        );
         self.text_end = image.text.len();
         self.initial = initial;
         self.table = opening_table();
@@ -304,8 +307,7 @@ impl PackedPages {
         } = over;
         unpack_frames(&self.table, self.words.as_slice(), &mut frames);
         let end = text_end.max(self.text.len());
-        write_all(&mut text, 0, self.text.as_slice(), end);
-        decode_range(&mut decoded, text.as_slice(), 0, end);
+        put_text(&mut text, &mut decoded, self.text.as_slice(), end);
         Ok(PageMap {
             alloc,
             text,

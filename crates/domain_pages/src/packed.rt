@@ -108,7 +108,8 @@ pub fn unpack_frames(table: &[bool; PAGES], words: &[Word], frames: &mut [Word])
     requires words { length words.now ≡ frame_words table.now }
     requires frames { length frames.old ≡ MEMORY_WORDS }
     ensures size { length frames.new ≡ MEMORY_WORDS }
-    ensures same { (k : ℕ) → k < MEMORY_WORDS → slice_index_or table.now (k / PAGE_WORDS) false ≡ true
+    ensures same { (k : ℕ) → k < MEMORY_WORDS
+        → slice_index_or table.now (k / PAGE_WORDS) false ≡ true
         → slice_index frames.new k ≡ slice_index (unpacked table.now words.now) k }
 {
     let mut rest = words;

@@ -11,12 +11,12 @@ ghost use Rattle.driver_asm.specs.Lexing.{has_registers};
 
 use crate::error::LineStop;
 use crate::labels::LabelTable;
-use crate::mnemonics::instr_with;
 use crate::statements::{definition_of, line_says};
 use crate::tokens::Token;
 use asm_defs::assembler::{AsmKind, Operands, Section, Statement, Value};
 use asm_defs::keys::entry_keys;
 use driver_isa::encode;
+use driver_isa::instructions::instr_with;
 use nook_data::classes::Class;
 use nook_data::lists::{Word, Words};
 use nook_data::memory::NoMemory;

@@ -22,7 +22,12 @@ impl Model for NextAddresses {
 
     ghost Value = { Cursor };
 
-    ghost view = { λ s. record { line = s.line; in_section = s.in_section; text = s.text; initial = s.initial } };
+    ghost view = { λ s. record {
+      line = s.line;
+      in_section = s.in_section;
+      text = s.text;
+      initial = s.initial;
+    } };
 }
 
 impl NextAddresses {

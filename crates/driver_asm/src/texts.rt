@@ -10,9 +10,10 @@ ghost use Rattle.nook_data.specs.Valid.{IsValidImage};
 ghost use Rattle.asm_defs.specs.Keys.{entry_keys};
 ghost use Rattle.machine_defs.specs.Mnemonics.{fields_of};
 
-use crate::mnemonics::{Fields, fields_of, form_of, mnemonic_text};
+use crate::mnemonics::{form_of, mnemonic_text};
 use asm_defs::keys::{Key, entry_keys, key_text};
 use driver_isa::decode;
+use driver_isa::instructions::{Fields, fields_of};
 use nook_data::classes::{Class, class_text};
 use nook_data::lists::{Word, Words8};
 use nook_data::machine::{Form, Instr};

@@ -1,11 +1,14 @@
--- The registers of a decoded word.
-use Rattle.std.proofs.Common.{◌≡◌, ◌≤◌, ◌&&◌, ℕ, nat_le, true, List, Option, Some, None, IfSome, refl, sym, ap, subst, ◌∙◌, arith}
+-- The registers of a decoded word, and the word of an instruction.
+use Rattle.std.proofs.Common.{◌≡◌, ◌≤◌, ◌<◌, ◌^◌, ◌&&◌, ℕ, nat_le, true, List, Option, Some, None, IfSome, refl, sym, ap, subst, ◌∙◌, arith}
 use Rattle.std.specs.Option.{option_map}
+use Rattle.std.proofs.lemmas.Bool.{and_parts, leb-true}
 use Rattle.std.specs.List.{find}
 use Rattle.driver_isa.specs.Fields.{has_registers}
 use Rattle.driver_isa.specs.Steps.{fetched}
-use Rattle.machine_defs.specs.Machine.{a_field, b_field, imm_field, is_of_row, decode_of}
-use Rattle.machine_defs.specs.Mnemonics.{Fields, fields, fields_of, form_of, instr_with, mnemonics}
+use Rattle.machine_defs.specs.Machine.{a_field, b_field, imm_field, is_of_row, decode_of, word_of}
+use Rattle.machine_defs.specs.Mnemonics.{Fields, fields_of, form_of, instr_with, instruction_row, mnemonics}
+use Rattle.machine_defs.proofs.Instructions.{fields_back, fields_in}
+use Rattle.machine_defs.proofs.Words.{InRange, decodes_back}
 use Rattle.machine_defs.specs.Pages.{fetch_word}
 use Rattle.nook_data.specs.declared.machine.Form.{Form}
 use Rattle.nook_data.specs.declared.machine.Form.TheVariants as form
@@ -13,45 +16,7 @@ use Rattle.nook_data.specs.declared.machine.Instr.{Instr}
 use Rattle.nook_data.specs.declared.machine.Mnemonic.{Mnemonic}
 use Rattle.nook_data.specs.declared.machine.Mnemonic.TheVariants as mnemonic
 
--- the operands that a form has, and 0 for the others
-fields_in : Mnemonic → Form → ℕ → ℕ → ℕ → Fields
-fields_in m form.Bare a b imm = fields m 0 0 0
-fields_in m form.A a b imm = fields m a 0 0
-fields_in m form.Imm a b imm = fields m 0 0 imm
-fields_in m form.AB a b imm = fields m a b 0
-fields_in m form.AImm a b imm = fields m a 0 imm
-fields_in m form.ABImm a b imm = fields m a b imm
-
--- an instruction has the operands of its form
-fields_back : (m : Mnemonic) (a b imm : ℕ) → fields_of (instr_with m a b imm) ≡ fields_in m (form_of m) a b imm
-unfolding fields_in
-fields_back mnemonic.Li a b imm = refl
-fields_back mnemonic.Lui a b imm = refl
-fields_back mnemonic.Mov a b imm = refl
-fields_back mnemonic.Add a b imm = refl
-fields_back mnemonic.Sub a b imm = refl
-fields_back mnemonic.And a b imm = refl
-fields_back mnemonic.Or a b imm = refl
-fields_back mnemonic.Xor a b imm = refl
-fields_back mnemonic.Shl a b imm = refl
-fields_back mnemonic.Shr a b imm = refl
-fields_back mnemonic.Addi a b imm = refl
-fields_back mnemonic.Ld a b imm = refl
-fields_back mnemonic.St a b imm = refl
-fields_back mnemonic.Jmp a b imm = refl
-fields_back mnemonic.Beq a b imm = refl
-fields_back mnemonic.Bne a b imm = refl
-fields_back mnemonic.Blt a b imm = refl
-fields_back mnemonic.Jal a b imm = refl
-fields_back mnemonic.Jr a b imm = refl
-fields_back mnemonic.In a b imm = refl
-fields_back mnemonic.Out a b imm = refl
-fields_back mnemonic.Kcall a b imm = refl
-fields_back mnemonic.Ret a b imm = refl
-fields_back mnemonic.Fault a b imm = refl
-
 are_low : (m : Mnemonic) (x : Form) (a b imm : ℕ) → a ≤ 15 → b ≤ 15 → (nat_le (fields_in m x a b imm).a 15 && nat_le (fields_in m x a b imm).b 15) ≡ true
-unfolding fields_in
 are_low m form.Bare a b imm low small = refl
 are_low m form.A a b imm low small = grind arith
 are_low m form.Imm a b imm low small = refl
@@ -80,3 +45,23 @@ past_registers (Some w) i e = subst (λ (o : Option (Option Instr)). IfSome o (�
 -- the same of an instruction that was fetched
 pub fetched_registers : (words : List ℕ) (counter : ℕ) (o : Option (Option Instr)) (i : Instr) → o ≡ fetched words counter → o ≡ Some (Some i) → has_registers i ≡ true
 fetched_registers words counter o i is e = past_registers (fetch_word words counter) i (sym is ∙ e)
+
+-- the word of an instruction's fields decodes to it, if they are in range
+pub encoded : (i : Instr) (f : Fields) (number w : ℕ) → has_registers i ≡ true → f ≡ fields_of i
+    → number ≡ (instruction_row f.mnemonic).number → w ≡ word_of number f.a f.b f.imm → imm_field w ≡ f.imm
+    → decode_of w ≡ Some i
+encoded i f number w low is row word imm =
+    ap decode_of (word ∙ (ap (λ n. word_of n f.a f.b f.imm) row ∙ ap (λ (f : Fields). word_of (instruction_row f.mnemonic).number f.a f.b f.imm) is))
+    ∙ decodes_back i (subst InRange is (record { low_a = omega (arith, low_a); low_b = omega (arith, low_b); low_imm = subst (λ n. n < 2 ^ 16) imm small }))
+  where
+    both : (nat_le (fields_of i).a 15 ≡ true) × (nat_le (fields_of i).b 15 ≡ true)
+    both = and_parts (nat_le (fields_of i).a 15) (nat_le (fields_of i).b 15) low
+
+    low_a : f.a ≤ 15
+    low_a = subst (λ (f : Fields). f.a ≤ 15) (sym is) (leb-true (fields_of i).a 15 both.0)
+
+    low_b : f.b ≤ 15
+    low_b = subst (λ (f : Fields). f.b ≤ 15) (sym is) (leb-true (fields_of i).b 15 both.1)
+
+    small : imm_field w < 2 ^ 16
+    small = omega arith

@@ -1,7 +1,7 @@
 use Rattle.std.specs.Prelude.{ℕ, Option, None, Some}
-use Rattle.driver_isa.specs.declared.decoded.Decoded.{Decoded}
-use Rattle.driver_isa.specs.declared.decoded.Op.{Op}
-use Rattle.driver_isa.specs.declared.decoded.Op.TheVariants as op
+use Rattle.driver_isa.specs.declared.instructions.Decoded.{Decoded}
+use Rattle.driver_isa.specs.declared.instructions.Op.{Op}
+use Rattle.driver_isa.specs.declared.instructions.Op.TheVariants as op
 use Rattle.nook_data.specs.declared.machine.Instr.{Instr}
 use Rattle.nook_data.specs.declared.machine.Instr.TheVariants as instr
 

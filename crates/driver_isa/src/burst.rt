@@ -1,6 +1,6 @@
 //! Bursts: instructions up to a crossing, with the faults that strike between them.
 
-ghost use Rattle.std.specs.Prelude.{◌≡◌, ◌<◌, ◌≤◌, ◌-◌, ℕ, None, false, length, []};
+ghost use Rattle.std.specs.Prelude.{◌≡◌, ◌<◌, ◌≤◌, ◌-◌, ℕ, List, None, false, length, []};
 ghost use Rattle.driver_isa.specs.Runs.{is_due, past_run};
 ghost use Rattle.driver_isa.specs.Steps.{cpu_of};
 ghost use Rattle.driver_isa.specs.Turns.{machine_of};
@@ -59,7 +59,8 @@ pub fn run_burst<B: Bus>(
     acts: &mut ActLog,
 ) -> BurstDone
     requires { acts.old ≡ [] }
-    ensures burst { burst_of (B.entries bus.old) faults.now (machine_of cpu.old (B.words bus.old) (B.device bus.old))
+    ensures burst { burst_of (B.entries bus.old) faults.now
+        (machine_of cpu.old (B.words bus.old) (B.device bus.old))
         ≡ record {
           machine = machine_of cpu.new (B.words bus.new) (B.device bus.new);
           acts = acts.new;
@@ -87,9 +88,11 @@ fn run_turns<B: Bus>(
     acts: &mut ActLog,
 ) -> Whole
     requires { acts.old ≡ [] }
-    ensures burst { burst_from MOST_INSTRUCTIONS (B.entries bus.old) faults.now (machine_of (cpu_of first registers.old) (B.words bus.old) (B.device bus.old)) acts.old
+    ensures burst { burst_from MOST_INSTRUCTIONS (B.entries bus.old) faults.now
+        (machine_of (cpu_of first registers.old) (B.words bus.old) (B.device bus.old)) acts.old
         ≡ record {
-          machine = machine_of (cpu_of result.counter registers.new) (B.words bus.new) (B.device bus.new);
+          machine = machine_of (cpu_of result.counter registers.new) (B.words bus.new)
+              (B.device bus.new);
           acts = acts.new;
           count = result.count;
           ending = result.end;
@@ -107,7 +110,7 @@ fn run_turns<B: Bus>(
         }
         pending = struck.rest;
         let stop = next_stop(pending, count);
-        let run = run_until(counter, count, stop, pending, registers, bus, acts);
+        let run = run_until(counter, count, stop, registers, bus, acts);
         count = run.count;
         counter = run.counter;
         if let Some(end) = run.end {
@@ -121,13 +124,13 @@ fn run_turns<B: Bus>(
     stopped(MOST_INSTRUCTIONS, counter, TrapCause::Hang)
 }
 
-/// Runs instructions up to a crossing or until `stop` of the burst are done; no fault is due before that.
+/// Runs instructions up to a crossing or until `stop` of the burst are done. No fault strikes here: `went` holds for
+/// faults of which none is due before that.
 #[inline(always)]
 fn run_until<B: Bus>(
     first: Word,
     before: u32,
     stop: u32,
-    pending: &[Fault],
     registers: &mut [Word; 16],
     bus: &mut B,
     acts: &mut ActLog,
@@ -135,30 +138,33 @@ fn run_until<B: Bus>(
     requires room { length acts.old < MOST_ACTS }
     requires some { before < stop }
     requires within { stop ≤ MOST_INSTRUCTIONS }
-    requires quiet { (k : ℕ) → before ≤ k → k < stop → is_due k pending.now ≡ false }
-    ensures went { burst_from (MOST_INSTRUCTIONS - before) (B.entries bus.old) pending.now (machine_of (cpu_of first registers.old) (B.words bus.old) (B.device bus.old)) acts.old
-        ≡ past_run result.count (B.entries bus.new) pending.now (machine_of (cpu_of result.counter registers.new) (B.words bus.new) (B.device bus.new)) acts.new result.end }
+    ensures went { (pending : List Fault)
+        → ((k : ℕ) → before ≤ k → k < stop → is_due k pending ≡ false)
+        → burst_from (MOST_INSTRUCTIONS - before) (B.entries bus.old) pending
+        (machine_of (cpu_of first registers.old) (B.words bus.old) (B.device bus.old)) acts.old
+        ≡ past_run result.count (B.entries bus.new) pending
+        (machine_of (cpu_of result.counter registers.new) (B.words bus.new) (B.device bus.new))
+        acts.new result.end }
     ensures room { result.end ≡ None → length acts.new < MOST_ACTS }
     ensures further { before < result.count }
     ensures within { result.count ≤ stop }
     ensures entries { B.entries bus.new ≡ B.entries bus.old }
     ensures held { B.held bus.new ≡ B.held bus.old }
 {
-    let mut run = run_straight(first, before, stop, pending, registers, bus, acts);
+    let mut run = run_straight(first, before, stop, registers, bus, acts);
     while run.end.is_none() && run.count < stop {
-        run = run_straight(run.counter, run.count, stop, pending, registers, bus, acts);
+        run = run_straight(run.counter, run.count, stop, registers, bus, acts);
     }
     run
 }
 
-/// Runs instructions up to a jump, a crossing, or until `stop` of the burst are done; no fault is due before that.
+/// Runs instructions up to a jump, a crossing, or until `stop` of the burst are done. No fault strikes here either.
 // A jump leaves the loop, so its target is a branch and not a conditional move, for which the next fetch would wait.
 #[inline(always)]
 fn run_straight<B: Bus>(
     first: Word,
     before: u32,
     stop: u32,
-    pending: &[Fault],
     registers: &mut [Word; 16],
     bus: &mut B,
     acts: &mut ActLog,
@@ -166,9 +172,13 @@ fn run_straight<B: Bus>(
     requires room { length acts.old < MOST_ACTS }
     requires some { before < stop }
     requires within { stop ≤ MOST_INSTRUCTIONS }
-    requires quiet { (k : ℕ) → before ≤ k → k < stop → is_due k pending.now ≡ false }
-    ensures went { burst_from (MOST_INSTRUCTIONS - before) (B.entries bus.old) pending.now (machine_of (cpu_of first registers.old) (B.words bus.old) (B.device bus.old)) acts.old
-        ≡ past_run result.count (B.entries bus.new) pending.now (machine_of (cpu_of result.counter registers.new) (B.words bus.new) (B.device bus.new)) acts.new result.end }
+    ensures went { (pending : List Fault)
+        → ((k : ℕ) → before ≤ k → k < stop → is_due k pending ≡ false)
+        → burst_from (MOST_INSTRUCTIONS - before) (B.entries bus.old) pending
+        (machine_of (cpu_of first registers.old) (B.words bus.old) (B.device bus.old)) acts.old
+        ≡ past_run result.count (B.entries bus.new) pending
+        (machine_of (cpu_of result.counter registers.new) (B.words bus.new) (B.device bus.new))
+        acts.new result.end }
     ensures room { result.end ≡ None → length acts.new < MOST_ACTS }
     ensures further { before < result.count }
     ensures within { result.count ≤ stop }
@@ -250,7 +260,8 @@ pub fn strike_due<'a, B: Bus>(
     registers: &mut [Word; 16],
     bus: &mut B,
 ) -> Struck<'a>
-    ensures struck { strikes_at point (B.entries bus.old) faults.now (machine_of (cpu_of counter registers.old) (B.words bus.old) (B.device bus.old))
+    ensures struck { strikes_at point (B.entries bus.old) faults.now
+        (machine_of (cpu_of counter registers.old) (B.words bus.old) (B.device bus.old))
         ≡ record {
           machine = machine_of (cpu_of counter registers.new) (B.words bus.new) (B.device bus.new);
           rest = result.rest.now;
@@ -278,7 +289,8 @@ fn strike_front<'a, B: Bus>(
     registers: &mut [Word; 16],
     bus: &mut B,
 ) -> Struck<'a>
-    ensures struck { strikes_at point (B.entries bus.old) faults.now (machine_of (cpu_of counter registers.old) (B.words bus.old) (B.device bus.old))
+    ensures struck { strikes_at point (B.entries bus.old) faults.now
+        (machine_of (cpu_of counter registers.old) (B.words bus.old) (B.device bus.old))
         ≡ record {
           machine = machine_of (cpu_of counter registers.new) (B.words bus.new) (B.device bus.new);
           rest = result.rest.now;
@@ -314,7 +326,8 @@ fn strike<B: Bus>(
     registers: &mut [Word; 16],
     bus: &mut B,
 ) -> Option<TrapCause>
-    ensures struck { struck_machine (B.entries bus.old) kind (machine_of (cpu_of counter registers.old) (B.words bus.old) (B.device bus.old))
+    ensures struck { struck_machine (B.entries bus.old) kind
+        (machine_of (cpu_of counter registers.old) (B.words bus.old) (B.device bus.old))
         ≡ machine_of (cpu_of counter registers.new) (B.words bus.new) (B.device bus.new) }
     ensures trap { result ≡ trap_of kind }
     ensures entries { B.entries bus.new ≡ B.entries bus.old }

@@ -15,7 +15,8 @@ pub fn a_turn_changes_at_most_one_word()
 /// A computed case: a store at the first address after the text changes that word, and one at the text's last word
 /// changes nothing.
 pub fn a_store_after_the_text_and_in_it()
-    ensures rest_after { (device : DeviceState) → (turn [] (before_store device 2048)).machine.memory
+    ensures rest_after { (device : DeviceState)
+        → (turn [] (before_store device 2048)).machine.memory
         ≡ 0x0d120000 ∷ (replicate 2047 0 ++ 7 ∷ []) }
     ensures inside { (device : DeviceState) → (turn [] (before_store device 2047)).machine.memory
         ≡ 0x0d120000 ∷ replicate 2048 0 }

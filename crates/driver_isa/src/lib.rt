@@ -6,12 +6,12 @@
 mod burst;
 mod bus;
 mod code;
-mod decoded;
+pub mod instructions;
 pub mod laws;
 mod turn;
 
 pub use burst::{BurstDone, Struck, run_burst, strike_due};
 pub use bus::Bus;
-pub use code::{decode, encode};
-pub use decoded::{Decoded, decoded_of, instr_of};
+pub use code::{decode, decoded_of, encode};
+pub use instructions::{Decoded, instr_of};
 pub use turn::turn as run_turn;

@@ -64,8 +64,10 @@ pub fn take_turn<B: Bus>(
 ) -> InstructionResult
     requires { length acts.old < MOST_ACTS }
     ensures turned { IsExecuted
-        (machine_turn (B.entries bus.old) (machine_of (cpu_of counter registers.old) (B.words bus.old) (B.device bus.old)))
-        (machine_of (cpu_of (next_of counter result) registers.new) (B.words bus.new) (B.device bus.new))
+        (machine_turn (B.entries bus.old)
+        (machine_of (cpu_of counter registers.old) (B.words bus.old) (B.device bus.old)))
+        (machine_of (cpu_of (next_of counter result) registers.new)
+        (B.words bus.new) (B.device bus.new))
         acts.old acts.new (crossing_of result) }
     ensures quiet { is_quiet result ≡ true → acts.new ≡ acts.old }
     ensures entries { B.entries bus.new ≡ B.entries bus.old }
@@ -90,8 +92,10 @@ fn perform<B: Bus>(
     requires fields { has_registers instr ≡ true }
     requires room { length acts.old < MOST_ACTS }
     ensures turned { IsExecuted
-        (executed (B.entries bus.old) (machine_of (cpu_of counter registers.old) (B.words bus.old) (B.device bus.old)) instr)
-        (machine_of (cpu_of (next_of counter result) registers.new) (B.words bus.new) (B.device bus.new))
+        (executed (B.entries bus.old)
+        (machine_of (cpu_of counter registers.old) (B.words bus.old) (B.device bus.old)) instr)
+        (machine_of (cpu_of (next_of counter result) registers.new)
+        (B.words bus.new) (B.device bus.new))
         acts.old acts.new (crossing_of result) }
     ensures quiet { is_quiet result ≡ true → acts.new ≡ acts.old }
     ensures entries { B.entries bus.new ≡ B.entries bus.old }
@@ -246,8 +250,10 @@ fn load<B: Bus>(
     address: u32,
 ) -> InstructionResult
     requires { a < 16 }
-    ensures loaded { loads (machine_of (cpu_of counter registers.old) (B.words bus.now) (B.device bus.now)) a address
-        ≡ quiet (machine_of (cpu_of (next_of counter result) registers.new) (B.words bus.now) (B.device bus.now)) (crossing_of result) }
+    ensures loaded { loads
+        (machine_of (cpu_of counter registers.old) (B.words bus.now) (B.device bus.now)) a address
+        ≡ quiet (machine_of (cpu_of (next_of counter result) registers.new)
+        (B.words bus.now) (B.device bus.now)) (crossing_of result) }
 {
     match bus.read(address) {
         Some(word) => put(registers, a, word),
@@ -264,8 +270,10 @@ fn store<B: Bus>(
     address: u32,
 ) -> InstructionResult
     requires { a < 16 }
-    ensures stored { stores (B.entries bus.old) (machine_of (cpu_of counter registers.now) (B.words bus.old) (B.device bus.old)) a address
-        ≡ quiet (machine_of (cpu_of (next_of counter result) registers.now) (B.words bus.new) (B.device bus.new)) (crossing_of result) }
+    ensures stored { stores (B.entries bus.old)
+        (machine_of (cpu_of counter registers.now) (B.words bus.old) (B.device bus.old)) a address
+        ≡ quiet (machine_of (cpu_of (next_of counter result) registers.now)
+        (B.words bus.new) (B.device bus.new)) (crossing_of result) }
     ensures entries { B.entries bus.new ≡ B.entries bus.old }
     ensures held { B.held bus.new ≡ B.held bus.old }
 {
@@ -285,8 +293,11 @@ fn take<B: Bus>(
     port: u16,
 ) -> InstructionResult
     requires { a < 16 }
-    ensures taken { past_input (machine_of (cpu_of counter registers.old) (B.words bus.old) (B.device bus.old)) a port (input_of port (B.device bus.old))
-        ≡ quiet (machine_of (cpu_of (next_of counter result) registers.new) (B.words bus.new) (B.device bus.new)) (crossing_of result) }
+    ensures taken { past_input
+        (machine_of (cpu_of counter registers.old) (B.words bus.old) (B.device bus.old))
+        a port (input_of port (B.device bus.old))
+        ≡ quiet (machine_of (cpu_of (next_of counter result) registers.new)
+        (B.words bus.new) (B.device bus.new)) (crossing_of result) }
     ensures entries { B.entries bus.new ≡ B.entries bus.old }
     ensures held { B.held bus.new ≡ B.held bus.old }
 {
@@ -309,9 +320,11 @@ fn give<B: Bus>(
     requires register { a < 16 }
     requires room { length acts.old < MOST_ACTS }
     ensures turned { IsExecuted
-        (past_output (machine_of (cpu_of counter registers.now) (B.words bus.old) (B.device bus.old)) port
+        (past_output
+        (machine_of (cpu_of counter registers.now) (B.words bus.old) (B.device bus.old)) port
         (output_of port (slice_index registers.now a) (B.device bus.old)))
-        (machine_of (cpu_of (next_of counter result) registers.now) (B.words bus.new) (B.device bus.new))
+        (machine_of (cpu_of (next_of counter result) registers.now)
+        (B.words bus.new) (B.device bus.new))
         acts.old acts.new (crossing_of result) }
     ensures quiet { is_quiet result ≡ true → acts.new ≡ acts.old }
     ensures entries { B.entries bus.new ≡ B.entries bus.old }

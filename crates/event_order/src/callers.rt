@@ -34,7 +34,11 @@ impl<'a> Model for Caller<'a> {
 
     ghost Value = { ThreadState };
 
-    ghost view = { λ s. record { rest = s.rest.now; waiting = waiting_for s.waiting; answers = [] } };
+    ghost view = { λ s. record {
+      rest = s.rest.now;
+      waiting = waiting_for s.waiting;
+      answers = [];
+    } };
 }
 
 impl<'a> Caller<'a> {

@@ -37,7 +37,10 @@ impl<'a> Model for Taker<'a> {
 
     ghost Value = { Taking };
 
-    ghost view = { λ s. record { left = map (λ l. l.now) s.left.items; threads = s.callers.items } };
+    ghost view = { λ s. record {
+      left = map (λ l. l.now) s.left.items;
+      threads = s.callers.items;
+    } };
 }
 
 impl<'a> Taker<'a> {

@@ -60,7 +60,7 @@ outcome_line number row picks =
     ++ (with_number (codes " failures ") row.failures ++ (with_number (codes " gone ") row.gone
     ++ (with_number (codes " lost ") row.lost ++ (with_list (codes " picks ") picks ++ line_feed))))))
 
--- the rows; the first row has number `place`
+-- the rows, numbered from `number` on
 unfoldable pub outcome_lines : ℕ → Scenario → List Path → List ℕ
 outcome_lines number scenario [] = []
 outcome_lines number scenario (path ∷ paths) =

@@ -74,7 +74,8 @@ fn turns_in(
     faults: &[Fault],
     index: u64,
 ) -> Result<u32, NoMemory>
-    ensures { IfOk result (λ turns. turns ≡ turns_by index (faults_of_burst burst faults.now) domain.state
+    ensures { IfOk result (λ turns. turns
+        ≡ turns_by index (faults_of_burst burst faults.now) domain.state
         (context_of context domain.state.contexts)) }
 {
     match domain.find_inside(context) {
@@ -88,7 +89,8 @@ fn turns_in(
 
 /// The faults of a part in the order in which they strike.
 fn script_of(alloc: Global, faults: &[Fault]) -> Result<FaultScript, NoMemory>
-    ensures { IfOk result (λ script. (burst : ℕ) → faults_of_burst burst script ≡ faults_of_burst burst faults.now) }
+    ensures { IfOk result (λ script. (burst : ℕ)
+        → faults_of_burst burst script ≡ faults_of_burst burst faults.now) }
 {
     let mut own = Vec::with_capacity(alloc, faults.len())?;
     own.extend_from_slice(faults)?;

@@ -26,9 +26,15 @@ impl<'a> Model for Comparing<'a> {
 
     ghost Value = { Comparison };
 
-    ghost view = { λ s. record { text = s.text.now; at = s.at; wrong = s.wrong; faults = s.faults } };
+    ghost view = { λ s. record {
+      text = s.text.now;
+      at = s.at;
+      wrong = s.wrong;
+      faults = s.faults;
+    } };
 
-    ghost invariant = { λ s. (s.at ≤ length s.text.now) × (is_other s.wrong (drop s.at s.text.now) ≡ true)
+    ghost invariant = { λ s. (s.at ≤ length s.text.now)
+        × (is_other s.wrong (drop s.at s.text.now) ≡ true)
         × (s.wrong ≡ None → s.faults ≡ 0) };
 }
 

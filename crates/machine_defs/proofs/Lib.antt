@@ -4,3 +4,5 @@ pub mod Padded
 pub mod MachineCases
 pub mod BurstKeeps
 pub mod BurstClasses
+pub mod Instructions
+pub mod Words

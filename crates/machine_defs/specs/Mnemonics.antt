@@ -1,4 +1,5 @@
-use Rattle.std.specs.Prelude.{ℕ, List, [], ◌∷◌, codes, Option}
+use Rattle.std.specs.Prelude.{ℕ, ◌==◌, if◌then◌else◌, Bool, true, false, List, [], ◌∷◌, codes, Option, None, Some}
+use Rattle.std.specs.List.{find}
 use Rattle.nook_data.specs.Names.{of_text}
 use Rattle.nook_data.specs.Types.{Form, Instr, Mnemonic}
 use Rattle.nook_data.specs.declared.machine.Form.TheVariants as form
@@ -7,40 +8,47 @@ use Rattle.nook_data.specs.declared.machine.Instr.TheVariants as instr
 
 -- The instruction table. It defines how words are decoded and encoded, and how texts are assembled and disassembled.
 
--- a row: the instruction's name, number and form, and a function from operands to the instruction; it ignores
--- operands that the form does not have
+-- a row: the instruction's name, number and form, whether it sets register a, and a function from operands to the
+-- instruction; it ignores operands that the form does not have
 pub record InstructionRow : Type 0 where
   pub name : List ℕ
   pub number : ℕ
   pub form : Form
+  pub sets : Bool
   pub of_operands : ℕ → ℕ → ℕ → Instr
 
--- a row with these fields
+-- the row of an instruction that sets register a
+abbrev pub sets : List ℕ → ℕ → Form → (ℕ → ℕ → ℕ → Instr) → InstructionRow
+sets name number operands make =
+    record { name = name; number = number; form = operands; sets = true; of_operands = make }
+
+-- the row of an instruction that sets no register
 abbrev pub row : List ℕ → ℕ → Form → (ℕ → ℕ → ℕ → Instr) → InstructionRow
-row name number operands make = record { name = name; number = number; form = operands; of_operands = make }
+row name number operands make =
+    record { name = name; number = number; form = operands; sets = false; of_operands = make }
 
 -- the table
 abbrev pub instruction_row : Mnemonic → InstructionRow
-instruction_row mnemonic.Li = row (codes "LI") 0x01 form.AImm (λ a b imm. instr.Li a imm)
-instruction_row mnemonic.Lui = row (codes "LUI") 0x02 form.AImm (λ a b imm. instr.Lui a imm)
-instruction_row mnemonic.Mov = row (codes "MOV") 0x03 form.AB (λ a b imm. instr.Mov a b)
-instruction_row mnemonic.Add = row (codes "ADD") 0x04 form.AB (λ a b imm. instr.Add a b)
-instruction_row mnemonic.Sub = row (codes "SUB") 0x05 form.AB (λ a b imm. instr.Sub a b)
-instruction_row mnemonic.And = row (codes "AND") 0x06 form.AB (λ a b imm. instr.And a b)
-instruction_row mnemonic.Or = row (codes "OR") 0x07 form.AB (λ a b imm. instr.Or a b)
-instruction_row mnemonic.Xor = row (codes "XOR") 0x08 form.AB (λ a b imm. instr.Xor a b)
-instruction_row mnemonic.Shl = row (codes "SHL") 0x09 form.AB (λ a b imm. instr.Shl a b)
-instruction_row mnemonic.Shr = row (codes "SHR") 0x0a form.AB (λ a b imm. instr.Shr a b)
-instruction_row mnemonic.Addi = row (codes "ADDI") 0x0b form.ABImm (λ a b imm. instr.Addi a b imm)
-instruction_row mnemonic.Ld = row (codes "LD") 0x0c form.ABImm (λ a b imm. instr.Ld a b imm)
+instruction_row mnemonic.Li = sets (codes "LI") 0x01 form.AImm (λ a b imm. instr.Li a imm)
+instruction_row mnemonic.Lui = sets (codes "LUI") 0x02 form.AImm (λ a b imm. instr.Lui a imm)
+instruction_row mnemonic.Mov = sets (codes "MOV") 0x03 form.AB (λ a b imm. instr.Mov a b)
+instruction_row mnemonic.Add = sets (codes "ADD") 0x04 form.AB (λ a b imm. instr.Add a b)
+instruction_row mnemonic.Sub = sets (codes "SUB") 0x05 form.AB (λ a b imm. instr.Sub a b)
+instruction_row mnemonic.And = sets (codes "AND") 0x06 form.AB (λ a b imm. instr.And a b)
+instruction_row mnemonic.Or = sets (codes "OR") 0x07 form.AB (λ a b imm. instr.Or a b)
+instruction_row mnemonic.Xor = sets (codes "XOR") 0x08 form.AB (λ a b imm. instr.Xor a b)
+instruction_row mnemonic.Shl = sets (codes "SHL") 0x09 form.AB (λ a b imm. instr.Shl a b)
+instruction_row mnemonic.Shr = sets (codes "SHR") 0x0a form.AB (λ a b imm. instr.Shr a b)
+instruction_row mnemonic.Addi = sets (codes "ADDI") 0x0b form.ABImm (λ a b imm. instr.Addi a b imm)
+instruction_row mnemonic.Ld = sets (codes "LD") 0x0c form.ABImm (λ a b imm. instr.Ld a b imm)
 instruction_row mnemonic.St = row (codes "ST") 0x0d form.ABImm (λ a b imm. instr.St a b imm)
 instruction_row mnemonic.Jmp = row (codes "JMP") 0x0e form.Imm (λ a b imm. instr.Jmp imm)
 instruction_row mnemonic.Beq = row (codes "BEQ") 0x0f form.ABImm (λ a b imm. instr.Beq a b imm)
 instruction_row mnemonic.Bne = row (codes "BNE") 0x10 form.ABImm (λ a b imm. instr.Bne a b imm)
 instruction_row mnemonic.Blt = row (codes "BLT") 0x11 form.ABImm (λ a b imm. instr.Blt a b imm)
-instruction_row mnemonic.Jal = row (codes "JAL") 0x12 form.AImm (λ a b imm. instr.Jal a imm)
+instruction_row mnemonic.Jal = sets (codes "JAL") 0x12 form.AImm (λ a b imm. instr.Jal a imm)
 instruction_row mnemonic.Jr = row (codes "JR") 0x13 form.A (λ a b imm. instr.Jr a)
-instruction_row mnemonic.In = row (codes "IN") 0x14 form.AImm (λ a b imm. instr.In a imm)
+instruction_row mnemonic.In = sets (codes "IN") 0x14 form.AImm (λ a b imm. instr.In a imm)
 instruction_row mnemonic.Out = row (codes "OUT") 0x15 form.AImm (λ a b imm. instr.Out a imm)
 instruction_row mnemonic.Kcall = row (codes "KCALL") 0x16 form.Imm (λ a b imm. instr.Kcall imm)
 instruction_row mnemonic.Ret = row (codes "RET") 0x17 form.A (λ a b imm. instr.Ret a)
@@ -61,6 +69,10 @@ mnemonic_text m = (instruction_row m).name
 -- the mnemonic with this text
 unfoldable pub mnemonic_named : List ℕ → Option Mnemonic
 mnemonic_named name = of_text mnemonic_text mnemonics name
+
+-- the mnemonic with this number
+abbrev pub mnemonic_numbered : ℕ → Option Mnemonic
+mnemonic_numbered number = find (λ m. number == (instruction_row m).number) mnemonics
 
 -- the operands that follow a mnemonic
 abbrev pub form_of : Mnemonic → Form
@@ -107,3 +119,7 @@ fields_of (instr.Out a imm) = fields mnemonic.Out a 0 imm
 fields_of (instr.Kcall imm) = fields mnemonic.Kcall 0 0 imm
 fields_of (instr.Ret a) = fields mnemonic.Ret a 0 0
 fields_of instr.Fault = fields mnemonic.Fault 0 0 0
+
+-- the register that an instruction sets
+abbrev pub target_of : Instr → Option ℕ
+target_of i = if (instruction_row (fields_of i).mnemonic).sets then Some (fields_of i).a else None

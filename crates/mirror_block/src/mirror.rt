@@ -44,7 +44,8 @@ impl<'a, D: DeskLike> Model for Mirror<'a, D> {
       stopped = m.stopped;
     } };
 
-    ghost invariant = { λ m. D.is_seat m.left.desk.now m.left.seat × D.is_seat m.right.desk.now m.right.seat };
+    ghost invariant = { λ m. D.is_seat m.left.desk.now m.left.seat
+        × D.is_seat m.right.desk.now m.right.seat };
 }
 
 impl<'a, D: DeskLike> Mirror<'a, D> {

@@ -53,6 +53,13 @@ pub struct Served {
     pub right: DeskSeat,
 }
 
+/// A desk, and a seat at it.
+#[derive(Drop)]
+struct Seated<'a> {
+    desk: &'a PartDesk,
+    seat: DeskSeat,
+}
+
 /// Runs the mirror of a valid scenario that a mirror serves: serves its thread's operations one after the other, over a
 /// desk for each of the two parts. Then both parts take their remaining steps, and the taps hear the journals, part by
 /// part. After `NoMemory` the taps have heard nothing, or all events of the journals of such a run.
@@ -133,10 +140,14 @@ fn run_pair<R: Wait>(
         rt,
         alloc,
         threads,
-        &left_desk,
-        &right_desk,
-        left_seat,
-        right_seat,
+        Seated {
+            desk: &left_desk,
+            seat: left_seat,
+        },
+        Seated {
+            desk: &right_desk,
+            seat: right_seat,
+        },
         left.blocks,
     )?;
     let left_part = leave(rt, alloc, left_desk, served.left)?;
@@ -149,27 +160,25 @@ fn serve_over<R: Wait>(
     rt: &R,
     alloc: Global,
     threads: &[ThreadSpec],
-    left: &PartDesk,
-    right: &PartDesk,
-    left_seat: DeskSeat,
-    right_seat: DeskSeat,
+    left: Seated,
+    right: Seated,
     blocks: u32,
 ) -> Result<Served, NoMemory>
     requires single { is_single threads.now ≡ true }
     requires few { length (ops_of_thread threads.now) ≤ MOST_OPS }
-    requires left_seat { IsDeskSeat left.now left_seat }
-    requires right_seat { IsDeskSeat right.now right_seat }
-    requires left { IsNewSide (desk_spec left.now) blocks (desk_view left_seat) }
-    requires right { IsNewSide (desk_spec right.now) blocks (desk_view right_seat) }
-    ensures left { IfOk result (λ served. IsDeskSeat left.now served.left) }
-    ensures right { IfOk result (λ served. IsDeskSeat right.now served.right) }
+    requires left_seat { IsDeskSeat left.desk.now left.seat }
+    requires right_seat { IsDeskSeat right.desk.now right.seat }
+    requires left { IsNewSide (desk_spec left.desk.now) blocks (desk_view left.seat) }
+    requires right { IsNewSide (desk_spec right.desk.now) blocks (desk_view right.seat) }
+    ensures left { IfOk result (λ served. IsDeskSeat left.entry.desk.now served.left) }
+    ensures right { IfOk result (λ served. IsDeskSeat right.entry.desk.now served.right) }
     ensures served { IfOk result
-        (λ served. HasServed desk_spec left.now right.now (desk_view left_seat)
-        (desk_view right_seat) blocks (ops_of_thread threads.now) served.answers
-        (desk_view served.left)
+        (λ served. HasServed desk_spec left.entry.desk.now right.entry.desk.now
+        (desk_view left.entry.seat) (desk_view right.entry.seat) blocks
+        (ops_of_thread threads.now) served.answers (desk_view served.left)
         (desk_view served.right)) }
 {
-    let mut mirror = Mirror::new(left, right, left_seat, right_seat, blocks);
+    let mut mirror = Mirror::new(left.desk, right.desk, left.seat, right.seat, blocks);
     let answers = serve_first(rt, alloc, &mut mirror, threads)?;
     let (left, right) = mirror.seats();
     Ok(Served {

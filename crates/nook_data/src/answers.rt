@@ -12,7 +12,8 @@ use std::alloc::Global;
 impl Event {
     /// The answer that the event gives to the call with this number, counted from 1; `None` if it gives it none.
     pub fn answer_to(&self, call: u32) -> Option<&Answer>
-        ensures { MatchOption result (answer_at call self.now ≡ None) (λ answer. answer_at call self.now ≡ Some answer.now) }
+        ensures { MatchOption result (answer_at call self.now ≡ None)
+            (λ answer. answer_at call self.now ≡ Some answer.now) }
     {
         match self {
             Event::Invoke {
@@ -48,7 +49,8 @@ impl Event {
 
 /// The first answer to the call with this number among the answers of a stage.
 pub fn answer_among(answers: &[(u32, Answer)], call: u32) -> Option<&Answer>
-    ensures { MatchOption result (answer_among call answers.now ≡ None) (λ answer. answer_among call answers.now ≡ Some answer.now) }
+    ensures { MatchOption result (answer_among call answers.now ≡ None)
+        (λ answer. answer_among call answers.now ≡ Some answer.now) }
 {
     for (this, answer) in answers {
         if *this == call {

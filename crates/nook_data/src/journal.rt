@@ -24,7 +24,10 @@ impl Model for Journal {
 
     ghost Value = { Kept Event };
 
-    ghost view = { λ s. record { list = s.events.items; spare = vec_capacity s.events - vec_len s.events } };
+    ghost view = { λ s. record {
+      list = s.events.items;
+      spare = vec_capacity s.events - vec_len s.events;
+    } };
 }
 
 impl Journal {
@@ -117,7 +120,8 @@ impl Model for ActLog {
 
     ghost view = { λ s. s.acts.items };
 
-    ghost invariant = { λ s. (MOST_ACTS ≤ vec_capacity s.acts) × (MOST_ACTS ≤ length s.acts.items + length s.rooms.items)
+    ghost invariant = { λ s. (MOST_ACTS ≤ vec_capacity s.acts)
+        × (MOST_ACTS ≤ length s.acts.items + length s.rooms.items)
         × All (λ room. MOST_FRAME_WORDS ≤ room) s.rooms.items };
 }
 
@@ -213,7 +217,8 @@ impl Model for SpareRooms {
 
     ghost view = { λ s. length s.rooms.items };
 
-    ghost invariant = { λ s. (s.acts.items ≡ []) × All (λ room. MOST_FRAME_WORDS ≤ room) s.rooms.items };
+    ghost invariant = { λ s. (s.acts.items ≡ [])
+        × All (λ room. MOST_FRAME_WORDS ≤ room) s.rooms.items };
 }
 
 impl SpareRooms {

@@ -110,7 +110,8 @@ impl<'a, T> IntoIterator for &'a Items<T> {
 
     type IntoIter = slice::Iter<'a, T>;
 
-    ghost into_iter_gives = { λ list made. (iter_rest made ≡ list.now) × (length (iter_rest made) < 2 ^ 64)
+    ghost into_iter_gives = { λ list made. (iter_rest made ≡ list.now)
+        × (length (iter_rest made) < 2 ^ 64)
         × EveryRun (iter_steps {A = T}) (λ p. ItemsMapTo p (λ item. item.now) (iter_rest p.from)) };
 
     fn into_iter(self) -> slice::Iter<'a, T> {

@@ -23,7 +23,8 @@ impl Model for Name {
 
     ghost view = { λ s. take s.length s.bytes };
 
-    ghost invariant = { λ s. (s.length ≤ MOST_NAME_BYTES) × (is_name (take s.length s.bytes) ≡ true) };
+    ghost invariant = { λ s. (s.length ≤ MOST_NAME_BYTES)
+        × (is_name (take s.length s.bytes) ≡ true) };
 }
 
 impl Name {

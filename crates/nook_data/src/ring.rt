@@ -26,7 +26,8 @@ impl Model for Ring {
 
     ghost view = { λ s. s.frames.items };
 
-    ghost invariant = { λ s. (MOST_RING_FRAMES ≤ deque_capacity s.frames) × (length s.frames.items ≤ MOST_RING_FRAMES)
+    ghost invariant = { λ s. (MOST_RING_FRAMES ≤ deque_capacity s.frames)
+        × (length s.frames.items ≤ MOST_RING_FRAMES)
         × All (λ frame. (1 ≤ length frame) × (length frame ≤ MOST_FRAME_WORDS)) s.frames.items };
 }
 
@@ -81,7 +82,8 @@ impl Ring {
 
     /// Takes the first frame off the ring, if there is one.
     pub fn pop(&mut self) -> Option<Words>
-        ensures { MatchOption result ((self.old ≡ []) × (self.new ≡ [])) (λ frame. self.old ≡ frame ∷ self.new) }
+        ensures { MatchOption result ((self.old ≡ []) × (self.new ≡ []))
+            (λ frame. self.old ≡ frame ∷ self.new) }
     {
         self.frames.pop_front()
     }

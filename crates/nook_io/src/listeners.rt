@@ -24,7 +24,8 @@ pub struct CountListener {
 impl CountListener {
     /// A listener with a total of 0.
     pub fn new(part_mask: u8, kind_mask: u8, limit: u64) -> CountListener
-        ensures { result ≡ record { part_mask = part_mask; kind_mask = kind_mask; limit = limit; total = 0 } }
+        ensures { result
+            ≡ record { part_mask = part_mask; kind_mask = kind_mask; limit = limit; total = 0 } }
     {
         CountListener {
             part_mask,
@@ -38,7 +39,12 @@ impl CountListener {
 impl Listener for CountListener {
     ghost use Rattle.nook_io.specs.Listening.{Listening};
 
-    ghost listening = { λ s. record { part_mask = s.part_mask; kind_mask = s.kind_mask; limit = s.limit; total = s.total } };
+    ghost listening = { λ s. record {
+      part_mask = s.part_mask;
+      kind_mask = s.kind_mask;
+      limit = s.limit;
+      total = s.total;
+    } };
 
     fn part_mask(&self) -> u8 {
         self.part_mask

@@ -30,7 +30,13 @@ impl Model for ListSource {
 
     ghost Value = { ListedSource };
 
-    ghost view = { λ s. record { left = drop s.at s.bytes; per_read = s.per_read; failing = s.failing; calls = s.calls; faults = s.faults } };
+    ghost view = { λ s. record {
+      left = drop s.at s.bytes;
+      per_read = s.per_read;
+      failing = s.failing;
+      calls = s.calls;
+      faults = s.faults;
+    } };
 
     ghost invariant = { λ s. (s.at ≤ length s.bytes) × (1 ≤ s.per_read) };
 }
@@ -40,7 +46,13 @@ impl ListSource {
     /// numbers fail. This allocates no memory.
     pub fn new(bytes: Words8, failing: Words, per_read: u32) -> ListSource
         requires { 1 ≤ per_read }
-        ensures { result ≡ record { left = bytes; per_read = per_read; failing = failing; calls = 0; faults = 0 } }
+        ensures { result ≡ record {
+          left = bytes;
+          per_read = per_read;
+          failing = failing;
+          calls = 0;
+          faults = 0;
+        } }
     {
         ListSource {
             bytes,
@@ -64,10 +76,18 @@ impl Source for ListSource {
         ensures bound { ReadsAtMost result buf.new }
         ensures bytes { ReadConsumes (Some self.old.left) (Some self.new.left) result buf.new }
         ensures cause { HasCause self.old.faults self.new.faults result }
-        ensures outcome { MatchBool (read_fails self.old) (IsErr result) (result ≡ Ok (given self.old buf.old)) }
+        ensures outcome { MatchBool (read_fails self.old)
+            (IsErr result)
+            (result ≡ Ok (given self.old buf.old)) }
         ensures fails { MatchBool (read_fails self.old)
-            (self.new ≡ record self.old { calls = one_more self.old.calls; faults = one_more self.old.faults })
-            (self.new ≡ record self.old { calls = one_more self.old.calls; left = drop (given self.old buf.old) self.old.left }) }
+            (self.new ≡ record self.old {
+              calls = one_more self.old.calls;
+              faults = one_more self.old.faults;
+            })
+            (self.new ≡ record self.old {
+              calls = one_more self.old.calls;
+              left = drop (given self.old buf.old) self.old.left;
+            }) }
     {
         self.calls = self.calls.saturating_add(1);
         if is_listed(&self.failing, self.calls) {
@@ -102,7 +122,14 @@ impl Model for ListSink {
 
     ghost Value = { ListedSink };
 
-    ghost view = { λ s. record { bytes = s.bytes.items; room = s.room; failing = s.failing; nothing = s.nothing; calls = s.calls; faults = s.faults } };
+    ghost view = { λ s. record {
+      bytes = s.bytes.items;
+      room = s.room;
+      failing = s.failing;
+      nothing = s.nothing;
+      calls = s.calls;
+      faults = s.faults;
+    } };
 
     ghost invariant = { λ s. (length s.bytes.items ≤ s.room) × (s.room ≤ vec_capacity s.bytes) };
 }
@@ -116,7 +143,14 @@ impl ListSink {
         failing: Words,
         nothing: bool,
     ) -> Result<ListSink, NoMemory>
-        ensures { IfOk result (λ made. made ≡ record { bytes = []; room = room; failing = failing; nothing = nothing; calls = 0; faults = 0 }) }
+        ensures { IfOk result (λ made. made ≡ record {
+          bytes = [];
+          room = room;
+          failing = failing;
+          nothing = nothing;
+          calls = 0;
+          faults = 0;
+        }) }
     {
         let bytes = Vec::with_capacity(alloc, room as usize)?;
         Ok(ListSink {
@@ -155,10 +189,18 @@ impl Sink for ListSink {
         ensures bound { WritesAtMost result piece.now }
         ensures bytes { WriteAppends (Some self.old.bytes) (Some self.new.bytes) result piece.now }
         ensures cause { HasWriteCause self.old.faults self.new.faults result }
-        ensures outcome { MatchBool (write_fails self.old) (IsRefusal self.old.nothing result) (result ≡ Ok (bytes_taken self.old piece.now)) }
+        ensures outcome { MatchBool (write_fails self.old)
+            (IsRefusal self.old.nothing result)
+            (result ≡ Ok (bytes_taken self.old piece.now)) }
         ensures fails { MatchBool (write_fails self.old)
-            (self.new ≡ record self.old { calls = one_more self.old.calls; faults = one_more self.old.faults })
-            (self.new ≡ record self.old { calls = one_more self.old.calls; bytes = self.old.bytes ++ take (bytes_taken self.old piece.now) piece.now }) }
+            (self.new ≡ record self.old {
+              calls = one_more self.old.calls;
+              faults = one_more self.old.faults;
+            })
+            (self.new ≡ record self.old {
+              calls = one_more self.old.calls;
+              bytes = self.old.bytes ++ take (bytes_taken self.old piece.now) piece.now;
+            }) }
     {
         self.calls = self.calls.saturating_add(1);
         let free = self.room - self.bytes.len();

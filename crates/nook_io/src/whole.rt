@@ -43,13 +43,15 @@ impl From<AllocError> for ReadStop {
 /// and never takes a byte after that one. It also stops at the source's first I/O error and then returns `Fault`.
 #[tactic(auto, using(crate::proofs::KnownLemmas::consumes_none, crate::proofs::KnownLemmas::consumes_more, crate::proofs::KnownLemmas::reads_all, crate::proofs::KnownLemmas::holds_more, crate::proofs::KnownLemmas::takes_front, crate::proofs::KnownLemmas::takes_more, crate::proofs::KnownLemmas::takes_kept))]
 pub fn read_all<S: Source>(alloc: Global, source: &mut S, limit: u32) -> Result<Vec<u8>, ReadStop>
-    ensures all { IfOk result (λ made. ReadsAll (S.left source.old) (S.left source.new) made.items) }
+    ensures all { IfOk result
+        (λ made. ReadsAll (S.left source.old) (S.left source.new) made.items) }
     ensures short { IfOk result (λ made. length made.items ≤ limit) }
     ensures too_long { IsErrOf result ReadStop.TooLong → HoldsMore (S.left source.old) limit }
     ensures taken { TakesAtMost (S.left source.old) (S.left source.new) (limit + 1) }
     ensures later { S.count source.old ≤ S.count source.new }
     ensures fault { IsErrOf result ReadStop.Fault → Rose (S.count source.old) (S.count source.new) }
-    ensures no_fault { (IsErrOf result ReadStop.Fault → ⊥) → S.count source.new ≡ S.count source.old }
+    ensures no_fault { (IsErrOf result ReadStop.Fault → ⊥)
+        → S.count source.new ≡ S.count source.old }
 {
     let limit = limit as usize;
     let mut bytes = Vec::new(alloc);

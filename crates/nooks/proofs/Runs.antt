@@ -1,9 +1,9 @@
 -- The call over bytes in memory, if neither side fails.
-use Rattle.std.proofs.Common.{◌≡◌, ℕ, ◌<◌, ◌≤◌, nat_le, Bool, true, false, List, ◌⊎◌, inl, inr, length, Option, Some, None, refl, sym, subst, arith, true≢false}
+use Rattle.std.proofs.Common.{◌≡◌, ℕ, ◌<◌, ◌≤◌, nat_le, Bool, true, false, List, ◌⊎◌, inl, inr, length, Option, Some, None, refl, sym, subst, arith}
 use Rattle.std.proofs.lemmas.Bool.{le-leb, leb-true}
 use Rattle.nook_io.specs.Causes.{ReadsAll, Rose}
 use Rattle.nook_io.specs.Listening.{Listening}
-use Rattle.nooks.specs.Answers.{Answers}
+use Rattle.nooks.specs.Answers.{Answers, AnswersBy}
 use Rattle.nooks.specs.Endings.{AnswersBytes, AnswersWords, IsAnswerStatus, IsWritten, ReadsFor, input_for}
 use Rattle.command_forms.specs.Forms.{is_reading, limit_of}
 use Rattle.nook_io.specs.Changes.{Change}
@@ -11,7 +11,6 @@ use Rattle.nooks.specs.Streams.{Input, Reads, TooLong, Whole, input_of}
 use Rattle.nooks.specs.declared.program.Status.{Status}
 use Rattle.nooks.specs.declared.program.Status.TheVariants as ended
 use Rattle.command_forms.specs.declared.words.Form.{Form}
-use Rattle.command_forms.specs.declared.words.Form.TheVariants as form
 
 -- a count that is always 0 never rises
 pub never_rose : Rose 0 0 → ⊥
@@ -43,22 +42,9 @@ read_input printed rest faults after limit TooLong reads = long_input limit prin
 -- what arguments that ask for no input are answered with does not depend on an input
 any_input : (asked : Form) (a b : Input) (hearing : List Listening) (text : List ℕ) (status : Status) → is_reading asked ≡ false
     → Answers (Some asked) a hearing text status → Answers (Some asked) b hearing text status
-any_input form.Run a b hearing text status e answer = absurd (true≢false e)
-any_input form.RunThreads a b hearing text status e answer = absurd (true≢false e)
-any_input form.Asm a b hearing text status e answer = absurd (true≢false e)
-any_input form.Dis a b hearing text status e answer = absurd (true≢false e)
-any_input form.Audit a b hearing text status e answer = absurd (true≢false e)
-any_input form.Campaign a b hearing text status e answer = absurd (true≢false e)
-any_input form.Mirror a b hearing text status e answer = absurd (true≢false e)
-any_input form.List a b hearing text status e answer = absurd (true≢false e)
-any_input (form.Trace part burst) a b hearing text status e answer = absurd (true≢false e)
-any_input form.Guard a b hearing text status e answer = absurd (true≢false e)
-any_input form.GuardScenario a b hearing text status e answer = absurd (true≢false e)
-any_input form.Explore a b hearing text status e answer = absurd (true≢false e)
-any_input (form.Gen number) a b hearing text status e answer = answer
-any_input (form.GenScenario number) a b hearing text status e answer = answer
-any_input form.Help a b hearing text status e answer = answer
-any_input form.Version a b hearing text status e answer = answer
+any_input asked a b hearing text status e answer =
+    let unread = subst (λ reads. AnswersBy reads asked a hearing text status) e answer in
+    subst (λ reads. AnswersBy reads asked b hearing text status) (sym e) unread
 
 by_reading : (asked : Form) (reading : Bool) (printed : List ℕ) (rest : Option (List ℕ)) (faults after : ℕ) (input : Input)
     (hearing : List Listening) (text : List ℕ) (status : Status) → is_reading asked ≡ reading

@@ -1,5 +1,5 @@
 -- What is written of an answer, from single texts up to the call.
-use Rattle.std.proofs.Common.{◌≡◌, ℕ, true, List, [], ◌∷◌, map, ap, Result, Ok, IfOk, ◌⊎◌, inl, inr, Option, Some, None, refl, sym, ◌∙◌, subst, true≢false}
+use Rattle.std.proofs.Common.{◌≡◌, ℕ, true, List, [], ◌∷◌, map, ap, Result, Ok, IfOk, ◌⊎◌, inl, inr, Option, Some, None, refl, sym, ◌∙◌, subst}
 use Rattle.std.specs.Io.KnownBytes.{Keeps}
 use Rattle.input_defs.specs.Faults.{fault_line}
 use Rattle.nook_io.specs.Listening.{Listening}
@@ -12,7 +12,7 @@ use Rattle.scenario_read.specs.Gives.{Fails}
 use Rattle.scenario_read.specs.declared.stop.ScenarioFault.{ScenarioFault}
 use Rattle.scenario_read.specs.declared.stop.ScenarioFault.TheVariants as stops
 use Rattle.request_taps.specs.declared.tap.Tap.{Tap}
-use Rattle.nooks.specs.Answers.{Answers, AnswersInput, IsFaultOf, IsRefusalLine, IsReported, Says}
+use Rattle.nooks.specs.Answers.{Answers, AnswersBy, AnswersInput, IsFaultOf, IsRefusalLine, IsReported, Says}
 use Rattle.nooks.specs.Endings.{AnswersWords, Ends, IsAnswerTo, IsAnswerStatus, IsBegun, IsCut, IsWritten, ReadsFor, StopWrites, Writes}
 use Rattle.command_forms.specs.Forms.{Asks, is_reading, limit_of}
 use Rattle.nook_io.specs.Changes.{Change}
@@ -87,22 +87,7 @@ writes_more A B sink ended.Cut more ends = written_more A B sink ended.Cut more 
 -- for a subcommand that reads, the answer to its input is its answer
 pub answers_input : (asked : Form) (input : Input) (hearing : List Listening) (text : List ℕ) (status : Status) → is_reading asked ≡ true
     → AnswersInput asked input hearing text status → Answers (Some asked) input hearing text status
-answers_input form.Run input hearing text status reads answer = answer
-answers_input form.RunThreads input hearing text status reads answer = answer
-answers_input form.Asm input hearing text status reads answer = answer
-answers_input form.Dis input hearing text status reads answer = answer
-answers_input form.Audit input hearing text status reads answer = answer
-answers_input form.Campaign input hearing text status reads answer = answer
-answers_input form.Mirror input hearing text status reads answer = answer
-answers_input form.List input hearing text status reads answer = answer
-answers_input (form.Trace part burst) input hearing text status reads answer = answer
-answers_input form.Guard input hearing text status reads answer = answer
-answers_input form.GuardScenario input hearing text status reads answer = answer
-answers_input form.Explore input hearing text status reads answer = answer
-answers_input (form.Gen number) input hearing text status reads answer = absurd (true≢false (sym reads))
-answers_input (form.GenScenario number) input hearing text status reads answer = absurd (true≢false (sym reads))
-answers_input form.Help input hearing text status reads answer = absurd (true≢false (sym reads))
-answers_input form.Version input hearing text status reads answer = absurd (true≢false (sym reads))
+answers_input asked input hearing text status reads answer = subst (λ r. AnswersBy r asked input hearing text status) (sym reads) answer
 
 -- the call ends as the writing of an answer does
 writes_end : (asked : Option Form) (hearing : List Listening) (source : Change) (sink : Change) (status : Status)

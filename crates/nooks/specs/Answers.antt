@@ -57,7 +57,7 @@ use Rattle.order_defs.specs.OutOfOrder.{Finds}
 use Rattle.run_laws.specs.Fitting.{AllFit, fitting_text}
 use Rattle.nooks.specs.Guardable.{guardable_from}
 use Rattle.nooks.specs.Streams.{Input, TooLong, Whole}
-use Rattle.command_forms.specs.Forms.{limit_of}
+use Rattle.command_forms.specs.Forms.{is_reading, limit_of}
 use Rattle.nooks.specs.Texts.{at_root, bad_header_text, help_text, no_such_burst_text, not_mirror_text, usage_text}
 use Rattle.nooks.specs.Texts.{verdict_text, version_text}
 use Rattle.nooks.specs.declared.program.Status.{Status}
@@ -420,14 +420,22 @@ AnswersInput asked TooLong hearing text status = Says (fault_line (at_root fault
 AnswersInput asked (Whole bytes) hearing text status =
     (IsFaultOf asked bytes text × (status ≡ ended.BadInput)) ⊎ Does asked bytes hearing text status
 
+-- what a subcommand that reads nothing is answered with
+abbrev pub AnswersUnread : Form → List ℕ → Status → Type 0
+AnswersUnread (form.Gen number) text status = IsSummary number text status
+AnswersUnread (form.GenScenario number) text status = Says (scenario_line (generated number)) ended.Done text status
+AnswersUnread form.Help text status = Says help_text ended.Done text status
+AnswersUnread form.Version text status = Says version_text ended.Done text status
+AnswersUnread asked text status = ⊥
+
+-- what a subcommand is answered with, by whether it reads an input
+abbrev pub AnswersBy : Bool → Form → Input → List Listening → List ℕ → Status → Type 0
+AnswersBy true asked input hearing text status = AnswersInput asked input hearing text status
+AnswersBy false asked input hearing text status = AnswersUnread asked text status
+
 -- what a subcommand is answered with
 abbrev pub AnswersForm : Form → Input → List Listening → List ℕ → Status → Type 0
-AnswersForm (form.Gen number) input hearing text status = IsSummary number text status
-AnswersForm (form.GenScenario number) input hearing text status =
-    Says (scenario_line (generated number)) ended.Done text status
-AnswersForm form.Help input hearing text status = Says help_text ended.Done text status
-AnswersForm form.Version input hearing text status = Says version_text ended.Done text status
-AnswersForm asked input hearing text status = AnswersInput asked input hearing text status
+AnswersForm asked input hearing text status = AnswersBy (is_reading asked) asked input hearing text status
 
 -- what the program answers
 abbrev pub Answers : Option Form → Input → List Listening → List ℕ → Status → Type 0

@@ -1,7 +1,7 @@
-//! The subcommands that read an input and wait for no one: what its bytes are answered with, or the line of their first
-//! input error.
+//! The subcommands that wait for no one. One that reads an input is answered with what its bytes ask for, or with the
+//! line of their first input error.
 
-ghost use Rattle.std.specs.Prelude.{◌≡◌, ℕ, ◌+◌, ◌≤◌, List, Some, Ok, Err, map, IfOk, IsTrue};
+ghost use Rattle.std.specs.Prelude.{◌≡◌, ℕ, ◌+◌, ◌≤◌, ◌⊎◌, List, Some, Ok, Err, map, IfOk, IsTrue};
 ghost use Rattle.campaign_defs.specs.Members.{Ran};
 ghost use Rattle.campaign_defs.specs.Rows.{IsPlanTable};
 ghost use Rattle.campaign_defs.specs.TableText.{plan_table_text};
@@ -25,11 +25,13 @@ ghost use Rattle.scenario_read.specs.Gives.{Gives};
 
 use crate::auditing::run_audit;
 use crate::exploring::run_explore;
+use crate::generating::give_generated;
 use crate::guarding::{run_guard, run_guard_scenario};
 use crate::heard::{Heard, all_heard};
 use crate::listing::run_list;
 use crate::program::{AUDIT_LIMIT, LIMIT, Status, finish};
-use crate::simulated::simulate_and_report;
+use crate::simulated::{run_generated, simulate_and_report};
+use crate::texts::{HELP, VERSION};
 use crate::tracing::trace_bytes;
 use asm_defs::assembler::AsmFault;
 use command_forms::Form;
@@ -47,8 +49,44 @@ use scenario_read::{ScenarioFault, fault_line, read_image, read_plan, read_scena
 use std::alloc::Global;
 use std::thread::Threads;
 
+/// Does what a subcommand asks for that waits for no one.
+pub fn run_form<R: Threads + Sync, S: Source, K: Sink, T: Drop>(
+    rt: &R,
+    alloc: Global,
+    asked: Form,
+    source: &mut S,
+    sink: &mut K,
+    listeners: Vec<T>,
+) -> Status
+where
+    Heard<T>: Listener,
+    requires alone { IsTrue (is_alone asked) }
+    requires number { (number : ℕ) → asked ≡ Form.Gen number → number ≤ 256 }
+    requires scenario { (number : ℕ) → asked ≡ Form.GenScenario number → number ≤ 256 }
+    ensures ends { Ends (Some asked)
+        (map (λ v. ⟦<Heard<T> as Listener>⟧.listening (record { value = v })) listeners.items)
+        (change S.left S.count source.old source.new)
+        (change K.held K.count sink.old sink.new) result }
+    ensures unwritten { result ≡ Status.ReadFault → sink.new ≡ sink.old }
+    ensures unread { IsTrue (is_reading asked) ⊎ (source.new ≡ source.old) }
+    ensures taken { TakesAtMost (S.left source.old) (S.left source.new) (limit_of asked + 1) }
+    ensures source_later { S.count source.old ≤ S.count source.new }
+    ensures sink_later { K.count sink.old ≤ K.count sink.new }
+    ensures source_kept { (result ≡ Status.ReadFault → ⊥)
+        → S.count source.new ≡ S.count source.old }
+    ensures sink_kept { (result ≡ Status.WriteFault → ⊥) → K.count sink.new ≡ K.count sink.old }
+{
+    match asked {
+        Form::Gen { number } => run_generated(alloc, number, sink),
+        Form::GenScenario { number } => give_generated(alloc, number, sink),
+        Form::Help => finish(sink, HELP, Status::Done),
+        Form::Version => finish(sink, VERSION, Status::Done),
+        _ => read_and_answer(rt, alloc, asked, source, sink, listeners),
+    }
+}
+
 /// Reads the source and answers its bytes. The subcommand is one that reads, and waits for no one.
-pub fn read_and_answer<R: Threads + Sync, S: Source, K: Sink, T: Drop>(
+fn read_and_answer<R: Threads + Sync, S: Source, K: Sink, T: Drop>(
     rt: &R,
     alloc: Global,
     asked: Form,

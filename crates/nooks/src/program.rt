@@ -1,22 +1,19 @@
 //! The whole program as one call over a source and a sink.
 
-ghost use Rattle.std.specs.Prelude.{◌≡◌, ℕ, ◌+◌, ◌≤◌, ◌⊎◌, List, None, Some, IsTrue, map, string_bytes};
-ghost use Rattle.nook_io.specs.Causes.{Rose, TakesAtMost};
+ghost use Rattle.std.specs.Prelude.{◌≡◌, ℕ, ◌+◌, ◌≤◌, ◌⊎◌, List, None, Some, map, string_bytes};
+ghost use Rattle.nook_io.specs.Causes.{Rose};
 ghost use Rattle.nooks.specs.Answers.{Says};
-ghost use Rattle.nooks.specs.Endings.{AnswersBytes, AnswersWords, AskGuard, AskReport, Ends, EndsWords, HasReport};
+ghost use Rattle.nooks.specs.Endings.{AnswersBytes, AnswersWords, AskGuard, AskReport, EndsWords, HasReport};
 ghost use Rattle.nooks.specs.Endings.{IsAnswerStatus, IsBegun, IsCut, IsKeptReport, IsSafeReport, IsWritten, TakesFor};
 ghost use Rattle.nooks.specs.Endings.{Writes, code_of};
-ghost use Rattle.command_forms.specs.Forms.{AskAlone, AskUnread, is_alone, is_reading, limit_of};
+ghost use Rattle.command_forms.specs.Forms.{AskAlone, AskUnread};
 ghost use Rattle.nook_io.specs.Changes.{change};
 ghost use Rattle.nooks.specs.Streams.{GainsNothing};
 
-use crate::answering::read_and_answer;
-use crate::generating::give_generated;
-use crate::heard::Heard;
-use crate::simulated::run_generated;
-use crate::texts::{HELP, USAGE, VERSION};
-use crate::waiting::read_and_wait;
-use command_forms::{Form, form_of, waiting_form_of};
+use crate::answering::run_form;
+use crate::texts::USAGE;
+use crate::waiting::{Threading, read_and_wait};
+use command_forms::{form_of, waiting_form_of};
 use nook_data::lists::Words8;
 use nook_io::outside::{Gate, Listener, Sink, Source};
 use nook_io::streams_in_memory::{PlainSink, PlainSource};
@@ -133,7 +130,10 @@ pub fn run<R: Threads + Wait + Sync, S: Source, K: Sink, G: Gate>(
         × (K.count sink.old ≤ K.count sink.new) }
 {
     match waiting_form_of(words) {
-        Some(asked) => read_and_wait(rt, alloc, asked, source, sink, listeners, gate),
+        Some(asked) => {
+            let threading = Threading { rt, gate };
+            read_and_wait(&threading, alloc, asked, source, sink, listeners)
+        }
         None => run_alone(rt, alloc, words, source, sink, listeners),
     }
 }
@@ -201,52 +201,6 @@ pub fn run_alone_plain<R: Threads + Sync>(
     let mut source = PlainSource::new(bytes);
     let mut sink = PlainSink::new();
     run_alone(rt, alloc, words, &mut source, &mut sink, listeners)
-}
-
-/// Does what a subcommand asks for that waits for no one.
-fn run_form<R: Threads + Sync, S: Source, K: Sink, T: Drop>(
-    rt: &R,
-    alloc: Global,
-    asked: Form,
-    source: &mut S,
-    sink: &mut K,
-    listeners: Vec<T>,
-) -> Status
-where
-    Heard<T>: Listener,
-    requires alone { IsTrue (is_alone asked) }
-    requires number { (number : ℕ) → asked ≡ Form.Gen number → number ≤ 256 }
-    requires scenario { (number : ℕ) → asked ≡ Form.GenScenario number → number ≤ 256 }
-    ensures ends { Ends (Some asked)
-        (map (λ v. ⟦<Heard<T> as Listener>⟧.listening (record { value = v })) listeners.items)
-        (change S.left S.count source.old source.new)
-        (change K.held K.count sink.old sink.new) result }
-    ensures unwritten { result ≡ Status.ReadFault → sink.new ≡ sink.old }
-    ensures unread { IsTrue (is_reading asked) ⊎ (source.new ≡ source.old) }
-    ensures taken { TakesAtMost (S.left source.old) (S.left source.new) (limit_of asked + 1) }
-    ensures source_later { S.count source.old ≤ S.count source.new }
-    ensures sink_later { K.count sink.old ≤ K.count sink.new }
-    ensures source_kept { (result ≡ Status.ReadFault → ⊥)
-        → S.count source.new ≡ S.count source.old }
-    ensures sink_kept { (result ≡ Status.WriteFault → ⊥) → K.count sink.new ≡ K.count sink.old }
-{
-    match asked {
-        Form::Gen { number } => run_generated(alloc, number, sink),
-        Form::GenScenario { number } => give_generated(alloc, number, sink),
-        Form::Help => finish(sink, HELP, Status::Done),
-        Form::Version => finish(sink, VERSION, Status::Done),
-        Form::Run
-        | Form::Asm
-        | Form::Dis
-        | Form::Audit
-        | Form::Campaign
-        | Form::List
-        | Form::Trace { .. }
-        | Form::Guard
-        | Form::GuardScenario
-        | Form::Explore => read_and_answer(rt, alloc, asked, source, sink, listeners),
-        Form::RunThreads | Form::Mirror => unreachable!(),
-    }
 }
 
 /// Writes a text and ends with the status of its answer, or with an I/O error of the sink.

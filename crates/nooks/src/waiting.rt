@@ -24,15 +24,21 @@ use std::alloc::Global;
 use std::sync::Wait;
 use std::thread::Threads;
 
+/// What starts threads, and the gate that they pass.
+#[derive(Drop)]
+pub struct Threading<'a, R, G> {
+    pub rt: &'a R,
+    pub gate: &'a G,
+}
+
 /// Reads the source and answers its bytes.
 pub fn read_and_wait<R: Threads + Wait + Sync, S: Source, K: Sink, G: Gate, T: Drop>(
-    rt: &R,
+    threading: &Threading<'_, R, G>,
     alloc: Global,
     asked: WaitingForm,
     source: &mut S,
     sink: &mut K,
     listeners: Vec<T>,
-    gate: &G,
 ) -> Status
 where
     Heard<T>: Listener,
@@ -50,20 +56,19 @@ where
     ensures sink_kept { (result ≡ Status.WriteFault → ⊥) → K.count sink.new ≡ K.count sink.old }
 {
     match read_all(alloc, source, LIMIT) {
-        Ok(bytes) => wait(rt, alloc, asked, bytes.as_slice(), sink, listeners, gate),
+        Ok(bytes) => wait(threading, alloc, asked, bytes.as_slice(), sink, listeners),
         Err(stop) => refuse_source(alloc, stop, sink),
     }
 }
 
 /// Answers the bytes of the source, or reports their first input error.
 fn wait<R: Threads + Wait + Sync, K: Sink, G: Gate, T: Drop>(
-    rt: &R,
+    threading: &Threading<'_, R, G>,
     alloc: Global,
     asked: WaitingForm,
     bytes: &[u8],
     sink: &mut K,
     listeners: Vec<T>,
-    gate: &G,
 ) -> Status
 where
     Heard<T>: Listener,
@@ -75,9 +80,9 @@ where
 {
     match asked {
         WaitingForm::RunThreads => {
-            run_scenario_by_threads(rt, alloc, bytes, sink, listeners, gate)
+            run_scenario_by_threads(threading.rt, alloc, bytes, sink, listeners, threading.gate)
         }
-        WaitingForm::Mirror => serve_bytes(rt, alloc, bytes, sink, listeners),
+        WaitingForm::Mirror => serve_bytes(threading.rt, alloc, bytes, sink, listeners),
     }
 }
 

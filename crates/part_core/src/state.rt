@@ -55,7 +55,8 @@ impl Model for State {
       arrived = s.arrived;
     } };
 
-    ghost invariant = { λ s. (s.domain.heap_start ≡ DATA_START + length s.spec.image.initial) × (s.domain.class ≡ s.spec.class) };
+    ghost invariant = { λ s. (s.domain.heap_start ≡ DATA_START + length s.spec.image.initial)
+        × (s.domain.class ≡ s.spec.class) };
 }
 
 impl Drop for State {

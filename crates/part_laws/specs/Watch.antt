@@ -247,7 +247,7 @@ abbrev pub break_at : Option ℕ → ℕ → Option Break → Option Break
 break_at None number later = later
 break_at (Some clause) number later = Some (record { event = number; clause = clause })
 
--- the first break of consecutive events, the first of which has the number `place`
+-- the first break of consecutive events, numbered from `number` on
 unfoldable pub break_from : ℕ → Watch → List Event → Option Break
 break_from number w [] = None
 break_from number w (e ∷ events) = break_at (sees w e).clause number (break_from (suc number) (sees w e) events)

@@ -26,7 +26,8 @@ impl Model for DeskSeat {
 
     ghost view = { λ s. record { seat = s.seat; clock = s.clock } };
 
-    ghost invariant = { λ s. (s.seat.me.0.has ≡ false) × IsSeen s.seat.me.0.origin (events_of s.seat.me.0.seen)
+    ghost invariant = { λ s. (s.seat.me.0.has ≡ false)
+        × IsSeen s.seat.me.0.origin (events_of s.seat.me.0.seen)
         × (s.seat.me.0.start ≡ 0) × Accounts (timed_view s.seat.me.0 s.clock)
         × Clocked (timed_view s.seat.me.0 s.clock) };
 }

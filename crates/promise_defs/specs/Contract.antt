@@ -279,7 +279,7 @@ broken k (event.Burst context call burst count e done a failure) =
     filter (λ clause. is_broken_by clause call k (deeds_of done e a failure)) all_clauses
 broken k e = []
 
--- the first break in consecutive events; the first event has number `place`
+-- the first break in consecutive events, numbered from `position` on
 unfoldable pub break_from : ℕ → Known → List Event → Option Break
 break_from position k [] = None
 break_from position k (e ∷ events) = elim (broken k e) [

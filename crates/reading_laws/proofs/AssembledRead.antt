@@ -21,7 +21,9 @@ use Rattle.nook_data.specs.Classes.{entry_count}
 use Rattle.nook_data.specs.ClassNames.{class_named}
 use Rattle.asm_defs.specs.Keys.{entry_keys}
 use Rattle.machine_defs.specs.Machine.{encode_of, word_of}
-use Rattle.machine_defs.specs.Mnemonics.{instr_with, form_of, mnemonic_named}
+use Rattle.machine_defs.specs.Mnemonics.{Fields, form_of, instr_with, instruction_row, mnemonic_named}
+use Rattle.machine_defs.proofs.Instructions.{each, fields_back, fields_in}
+use Rattle.asm_defs.proofs.AsmInstrs.{fields_mnemonic}
 use Rattle.asm_defs.specs.Results.{◌>>=◌}
 use Rattle.nook_data.specs.Valid.{AreWords, IsValidImage, IsWord}
 use Rattle.nook_data.specs.Views.Limits.{IsTextAddress}
@@ -31,7 +33,6 @@ use Rattle.asm_defs.specs.declared.assembler.AsmKind.TheVariants as fault
 use Rattle.nook_data.specs.declared.machine.Form.{Form}
 use Rattle.nook_data.specs.declared.machine.Form.TheVariants as form
 use Rattle.nook_data.specs.declared.machine.Mnemonic.{Mnemonic}
-use Rattle.nook_data.specs.declared.machine.Mnemonic.TheVariants as mnemonic
 use Rattle.asm_defs.specs.declared.assembler.Operands.{Operands}
 use Rattle.asm_defs.specs.declared.assembler.Section.{Section}
 use Rattle.asm_defs.specs.declared.assembler.Section.TheVariants as section
@@ -48,40 +49,29 @@ use Rattle.reading_laws.proofs.Readings.{chained, passed}
 -- ---- words of instructions
 
 -- fields in range form a word
-word_fits : (op a b imm : ℕ) → op ≤ 24 → a ≤ 15 → b ≤ 15 → imm ≤ 65535 → word_of op a b imm < 2 ^ 32
+word_fits : (op a b imm : ℕ) → op ≤ 255 → a ≤ 15 → b ≤ 15 → imm ≤ 65535 → word_of op a b imm < 2 ^ 32
 word_fits op a b imm ho ha hb hi = omega arith
 
 zero : 0 ≤ 15
 zero = lit≤ tt
 
-none : 0 ≤ 65535
-none = lit≤ tt
+number_fits : (m : Mnemonic) → (instruction_row m).number ≤ 255
+number_fits m = leb-true (instruction_row m).number 255 (each (λ m. nat_le (instruction_row m).number 255) refl m)
+
+form_fits : (m : Mnemonic) (x : Form) (a b imm : ℕ) → a ≤ 15 → b ≤ 15 → imm ≤ 65535
+    → IsWord (word_of (instruction_row m).number (fields_in m x a b imm).a (fields_in m x a b imm).b (fields_in m x a b imm).imm)
+form_fits m form.Bare a b imm ha hb hi = word_fits (instruction_row m).number 0 0 0 (number_fits m) (lit≤ tt) (lit≤ tt) (lit≤ tt)
+form_fits m form.A a b imm ha hb hi = word_fits (instruction_row m).number a 0 0 (number_fits m) ha (lit≤ tt) (lit≤ tt)
+form_fits m form.Imm a b imm ha hb hi = word_fits (instruction_row m).number 0 0 imm (number_fits m) (lit≤ tt) (lit≤ tt) hi
+form_fits m form.AB a b imm ha hb hi = word_fits (instruction_row m).number a b 0 (number_fits m) ha hb (lit≤ tt)
+form_fits m form.AImm a b imm ha hb hi = word_fits (instruction_row m).number a 0 imm (number_fits m) ha (lit≤ tt) hi
+form_fits m form.ABImm a b imm ha hb hi = word_fits (instruction_row m).number a b imm (number_fits m) ha hb hi
 
 encoded_fits : (m : Mnemonic) (a b imm : ℕ) → a ≤ 15 → b ≤ 15 → imm ≤ 65535 → IsWord (encode_of (instr_with m a b imm))
-encoded_fits mnemonic.Li a b imm ha hb hi = word_fits 0x01 a 0 imm (lit≤ tt) ha zero hi
-encoded_fits mnemonic.Lui a b imm ha hb hi = word_fits 0x02 a 0 imm (lit≤ tt) ha zero hi
-encoded_fits mnemonic.Mov a b imm ha hb hi = word_fits 0x03 a b 0 (lit≤ tt) ha hb none
-encoded_fits mnemonic.Add a b imm ha hb hi = word_fits 0x04 a b 0 (lit≤ tt) ha hb none
-encoded_fits mnemonic.Sub a b imm ha hb hi = word_fits 0x05 a b 0 (lit≤ tt) ha hb none
-encoded_fits mnemonic.And a b imm ha hb hi = word_fits 0x06 a b 0 (lit≤ tt) ha hb none
-encoded_fits mnemonic.Or a b imm ha hb hi = word_fits 0x07 a b 0 (lit≤ tt) ha hb none
-encoded_fits mnemonic.Xor a b imm ha hb hi = word_fits 0x08 a b 0 (lit≤ tt) ha hb none
-encoded_fits mnemonic.Shl a b imm ha hb hi = word_fits 0x09 a b 0 (lit≤ tt) ha hb none
-encoded_fits mnemonic.Shr a b imm ha hb hi = word_fits 0x0a a b 0 (lit≤ tt) ha hb none
-encoded_fits mnemonic.Addi a b imm ha hb hi = word_fits 0x0b a b imm (lit≤ tt) ha hb hi
-encoded_fits mnemonic.Ld a b imm ha hb hi = word_fits 0x0c a b imm (lit≤ tt) ha hb hi
-encoded_fits mnemonic.St a b imm ha hb hi = word_fits 0x0d a b imm (lit≤ tt) ha hb hi
-encoded_fits mnemonic.Jmp a b imm ha hb hi = word_fits 0x0e 0 0 imm (lit≤ tt) zero zero hi
-encoded_fits mnemonic.Beq a b imm ha hb hi = word_fits 0x0f a b imm (lit≤ tt) ha hb hi
-encoded_fits mnemonic.Bne a b imm ha hb hi = word_fits 0x10 a b imm (lit≤ tt) ha hb hi
-encoded_fits mnemonic.Blt a b imm ha hb hi = word_fits 0x11 a b imm (lit≤ tt) ha hb hi
-encoded_fits mnemonic.Jal a b imm ha hb hi = word_fits 0x12 a 0 imm (lit≤ tt) ha zero hi
-encoded_fits mnemonic.Jr a b imm ha hb hi = word_fits 0x13 a 0 0 (lit≤ tt) ha zero none
-encoded_fits mnemonic.In a b imm ha hb hi = word_fits 0x14 a 0 imm (lit≤ tt) ha zero hi
-encoded_fits mnemonic.Out a b imm ha hb hi = word_fits 0x15 a 0 imm (lit≤ tt) ha zero hi
-encoded_fits mnemonic.Kcall a b imm ha hb hi = word_fits 0x16 0 0 imm (lit≤ tt) zero zero hi
-encoded_fits mnemonic.Ret a b imm ha hb hi = word_fits 0x17 a 0 0 (lit≤ tt) ha zero none
-encoded_fits mnemonic.Fault a b imm ha hb hi = lit< tt
+encoded_fits m a b imm ha hb hi = subst (λ (f : Fields). IsWord (word_of (instruction_row f.mnemonic).number f.a f.b f.imm))
+    (sym (fields_back m a b imm))
+    (subst (λ n. IsWord (word_of (instruction_row n).number (fields_in m (form_of m) a b imm).a (fields_in m (form_of m) a b imm).b (fields_in m (form_of m) a b imm).imm))
+    (sym (fields_mnemonic m (form_of m) a b imm)) (form_fits m (form_of m) a b imm ha hb hi))
 
 -- ---- what a line says
 

@@ -72,7 +72,7 @@ row_line number row =
     ++ (with_number (codes " failures ") row.failures ++ (with_number (codes " gone ") row.gone
     ++ (with_number (codes " lost ") row.lost ++ line_feed)))))
 
--- the lines of rows; the first row has number `place`
+-- the lines of rows, numbered from `number` on
 abbrev pub row_lines : ℕ → List MemberRow → List ℕ
 row_lines number [] = []
 row_lines number (row ∷ rows) = row_line number row ++ row_lines (suc number) rows

@@ -171,7 +171,7 @@ event_text (event.Arrive frame kept) =
 unfoldable pub event_line : ℕ → Event → List ℕ
 event_line position e = decimal position ++ (codes " " ++ (event_text e ++ line_feed))
 
--- the lines of events; the first event has number `place`
+-- the lines of events, numbered from `position` on
 unfoldable pub event_lines : ℕ → List Event → List ℕ
 event_lines position [] = []
 event_lines position (e ∷ events) = event_line position e ++ event_lines (suc position) events

@@ -101,7 +101,7 @@ part_text number s events =
     part_line number s ++ (event_lines 1 events
     ++ final_lines s.class events (losses events) (first_break s.class s.blocks events) (state_of s events))
 
--- the parts, the first of them number `place`, each with its journal; there is a journal for each part
+-- the parts, numbered from `number` on, each with its journal; there is a journal for each part
 unfoldable pub parts_text : ℕ → List PartSpec → List (List Event) → List ℕ
 parts_text number [] journals = []
 parts_text number (s ∷ specs) [] = []
@@ -113,7 +113,7 @@ parts_text number (s ∷ specs) (events ∷ journals) = part_text number s event
 abbrev pub thread_line : ℕ → ThreadSpec → List ℕ
 thread_line number t = with_number (codes "thread ") number ++ (codes " " ++ (t.name ++ line_feed))
 
--- the answers of a thread, the first of them number `place`: K pP ANSWER
+-- the answers of a thread, numbered from `number` on: K pP ANSWER
 abbrev pub answer_lines : ℕ → List (ℕ × Answer) → List ℕ
 answer_lines number [] = []
 answer_lines number (a ∷ answers) =
@@ -121,14 +121,14 @@ answer_lines number (a ∷ answers) =
     ++ (with_number (codes " p") a.0
     ++ (codes " " ++ (answer_text a.1 ++ (line_feed ++ answer_lines (suc number) answers))))
 
--- the threads, the first of them number `place`, each with its answers; there is a list for each thread
+-- the threads, numbered from `number` on, each with its answers; there is a list for each thread
 unfoldable pub threads_text : ℕ → List ThreadSpec → List (List (ℕ × Answer)) → List ℕ
 threads_text number [] answers = []
 threads_text number (t ∷ threads) [] = []
 threads_text number (t ∷ threads) (own ∷ answers) =
     thread_line number t ++ (answer_lines 1 own ++ threads_text (suc number) threads answers)
 
--- the listeners, the first of them number `place`, each with its total and whether it is still attached
+-- the listeners, numbered from `number` on, each with its total and whether it is still attached
 unfoldable pub taps_text : ℕ → List (ℕ × Bool) → List ℕ
 taps_text number [] = []
 taps_text number (t ∷ taps) =

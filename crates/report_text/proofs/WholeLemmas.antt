@@ -45,6 +45,30 @@ pub rows_first : (number : ℕ) (specs : List PartSpec) (journals : List (Kept E
 rows_first number specs journals reports ends s journal r e more_specs more_journals more_reports more_ends a b c d =
     rw (a, b, c, d, add-one number) refl
 
+-- ---- one of the lists is empty
+
+pub no_specs : (number : ℕ) (specs : List PartSpec) (journals : List (Kept Event)) (reports : List PartReport) (ends : List PartEnd) →
+    specs ≡ [] → parts_rows number specs journals reports ends ≡ []
+no_specs number specs journals reports ends h = rw h refl
+
+pub no_journals : (number : ℕ) (specs : List PartSpec) (journals : List (Kept Event)) (reports : List PartReport) (ends : List PartEnd) →
+    journals ≡ [] → parts_rows number specs journals reports ends ≡ []
+no_journals number [] journals reports ends h = refl
+no_journals number (s ∷ specs) journals reports ends h = rw h refl
+
+pub no_reports : (number : ℕ) (specs : List PartSpec) (journals : List (Kept Event)) (reports : List PartReport) (ends : List PartEnd) →
+    reports ≡ [] → parts_rows number specs journals reports ends ≡ []
+no_reports number [] journals reports ends h = refl
+no_reports number (s ∷ specs) [] reports ends h = refl
+no_reports number (s ∷ specs) (journal ∷ journals) reports ends h = rw h refl
+
+pub no_ends : (number : ℕ) (specs : List PartSpec) (journals : List (Kept Event)) (reports : List PartReport) (ends : List PartEnd) →
+    ends ≡ [] → parts_rows number specs journals reports ends ≡ []
+no_ends number [] journals reports ends h = refl
+no_ends number (s ∷ specs) [] reports ends h = refl
+no_ends number (s ∷ specs) (journal ∷ journals) [] ends h = refl
+no_ends number (s ∷ specs) (journal ∷ journals) (r ∷ reports) ends h = rw h refl
+
 -- ---- the rows are the text
 
 wire_text : (number : ℕ) (events : List Event) → each_text (event_text kind.Frames) number events ≡ flat_map wire_line (journal_acts events)

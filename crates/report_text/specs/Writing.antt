@@ -42,7 +42,7 @@ pub record Spilled {T : Type 0} (sink : Change) (result : Result T WriteStop) (t
   pub kept : OnOk result (sink.after.errors ≡ sink.before.errors)
   pub no_memory : IsErrOf result NoMemory → sink.after.errors ≡ sink.before.errors
 
--- the texts of items one after another; the first item has number `place`
+-- the texts of items one after another, numbered from `number` on
 abbrev pub each_text : {T : Type 0} → (ℕ → T → List ℕ) → ℕ → List T → List ℕ
 each_text text number [] = []
 each_text text number (item ∷ items) = text number item ++ each_text text (suc number) items

@@ -1,6 +1,7 @@
 //! Writes a whole report into a sink.
 
-ghost use Rattle.std.specs.Prelude.{◌≡◌, ◌+◌, ◌^◌, ◌<◌, ◌++◌, ℕ, List, OnOk, bytes_eq, flat_map, length, replicate};
+ghost use Rattle.std.specs.Prelude.{◌≡◌, ◌+◌, ◌^◌, ◌<◌, ◌++◌, ◌∷◌, ℕ, [], List, MatchOption, OnOk};
+ghost use Rattle.std.specs.Prelude.{bytes_eq, flat_map, length, replicate};
 ghost use Rattle.machine_defs.specs.Pages.{opening_object};
 ghost use Rattle.report_defs.specs.ReportLines.{spaced};
 ghost use Rattle.report_defs.specs.ReportText.{block_lines, contract_line, final_lines, losses_lines, played_line};
@@ -45,6 +46,56 @@ pub enum Kind {
     Frames,
     /// Samples that were played.
     Samples,
+}
+
+/// What is written of the parts: the spec, the journal, the summary and the final state of each.
+#[derive(Drop)]
+struct WrittenParts<'a> {
+    specs: &'a [PartSpec],
+    journals: &'a [Journal],
+    summed: &'a [PartReport],
+    ends: &'a [PartEnd],
+}
+
+/// What is written of a part: its spec, its journal, its summary and its final state.
+#[derive(Drop)]
+struct WrittenPart<'a> {
+    spec: &'a PartSpec,
+    journal: &'a Journal,
+    summed: &'a PartReport,
+    end: &'a PartEnd,
+}
+
+impl<'a> WrittenParts<'a> {
+    /// The first part and the others; none if one of the lists is empty.
+    #[tactic(auto, using(crate::proofs::WholeLemmas::no_specs, crate::proofs::WholeLemmas::no_journals, crate::proofs::WholeLemmas::no_reports, crate::proofs::WholeLemmas::no_ends))]
+    fn split_first(&self) -> Option<(WrittenPart<'a>, WrittenParts<'a>)>
+        ensures { MatchOption result
+            ((number : ℕ) → parts_rows number self.now.specs.now self.now.journals.now
+            self.now.summed.now self.now.ends.now ≡ [])
+            (λ split. (self.now.specs.now ≡ split.0.spec.now ∷ split.1.specs.now)
+            × (self.now.journals.now ≡ split.0.journal.now ∷ split.1.journals.now)
+            × (self.now.summed.now ≡ split.0.summed.now ∷ split.1.summed.now)
+            × (self.now.ends.now ≡ split.0.end.now ∷ split.1.ends.now)) }
+    {
+        let (spec, specs) = self.specs.split_first()?;
+        let (journal, journals) = self.journals.split_first()?;
+        let (report, summed) = self.summed.split_first()?;
+        let (end, ends) = self.ends.split_first()?;
+        let first = WrittenPart {
+            spec,
+            journal,
+            summed: report,
+            end,
+        };
+        let others = WrittenParts {
+            specs,
+            journals,
+            summed,
+            ends,
+        };
+        Some((first, others))
+    }
 }
 
 /// Whether a kernel object is as it was initially: its number, then zeros.
@@ -433,55 +484,35 @@ fn write_part<K: Sink>(
     alloc: Global,
     sink: &mut K,
     number: u64,
-    spec: &PartSpec,
-    events: &[Event],
-    summed: &PartReport,
-    end: &PartEnd,
+    part: &WrittenPart,
 ) -> Result<(), WriteStop>
     ensures { Wrote (change K.held K.count sink.old sink.new) result
-        (part_rows number spec.now events.now summed.now end.now) }
+        (part_rows number part.now.spec.now part.now.journal.now.list part.now.summed.now
+        part.now.end.now) }
 {
-    write_part_line(alloc, sink, number, spec)?;
+    let events = part.journal.as_slice();
+    write_part_line(alloc, sink, number, part.spec)?;
     write_events(alloc, sink, events)?;
-    write_final_rows(alloc, sink, spec.class, events, summed, end)
+    write_final_rows(alloc, sink, part.spec.class, events, part.summed, part.end)
 }
 
-/// Writes the lines of the parts; the first part has number `place`.
+/// Writes the lines of the parts, numbered from `number` on.
 fn write_parts<K: Sink>(
     alloc: Global,
     sink: &mut K,
     number: u64,
-    specs: &[PartSpec],
-    journals: &[Journal],
-    summed: &[PartReport],
-    ends: &[PartEnd],
+    parts: &WrittenParts,
 ) -> Result<(), WriteStop>
-    requires { number + length specs.now < 2 ^ 64 }
+    requires { number + length parts.now.specs.now < 2 ^ 64 }
     ensures { Wrote (change K.held K.count sink.old sink.new) result
-        (parts_rows number specs.now journals.now summed.now ends.now) }
+        (parts_rows number parts.now.specs.now parts.now.journals.now parts.now.summed.now
+        parts.now.ends.now) }
 {
-    let Some((spec, more_specs)) = specs.split_first() else {
+    let Some((first, others)) = parts.split_first() else {
         return Ok(());
     };
-    let Some((journal, more_journals)) = journals.split_first() else {
-        return Ok(());
-    };
-    let Some((one, more_summed)) = summed.split_first() else {
-        return Ok(());
-    };
-    let Some((end, more_ends)) = ends.split_first() else {
-        return Ok(());
-    };
-    write_part(alloc, sink, number, spec, journal.as_slice(), one, end)?;
-    write_parts(
-        alloc,
-        sink,
-        number + 1,
-        more_specs,
-        more_journals,
-        more_summed,
-        more_ends,
-    )
+    write_part(alloc, sink, number, &first)?;
+    write_parts(alloc, sink, number + 1, &others)
 }
 
 /// Writes the listeners; the first has number 0.
@@ -587,13 +618,11 @@ fn write_all_parts<K: Sink>(
     ensures { Wrote (change K.held K.count sink.old sink.new) result
         (parts_rows 0 scenario.now.parts report.now.run.journals report.now.parts report.now.ends) }
 {
-    write_parts(
-        alloc,
-        sink,
-        0,
-        scenario.parts.as_slice(),
-        report.run.journals.as_slice(),
-        report.parts.as_slice(),
-        report.ends.as_slice(),
-    )
+    let parts = WrittenParts {
+        specs: scenario.parts.as_slice(),
+        journals: report.run.journals.as_slice(),
+        summed: report.parts.as_slice(),
+        ends: report.ends.as_slice(),
+    };
+    write_parts(alloc, sink, 0, &parts)
 }

@@ -216,7 +216,7 @@ fn write_answers<K: Sink>(
     write_each(alloc, sink, 1, answers)
 }
 
-/// Writes the lines of the threads; the first thread has number `place`.
+/// Writes the lines of the threads, numbered from `number` on.
 #[tactic(auto, unfolding(report_defs::specs::ReportText::threads_text))]
 pub fn write_threads<K: Sink>(
     alloc: Global,

@@ -68,12 +68,12 @@ by_answer part e s w None h same silent =
 
     kept : pending_number (λ call. answer_at call e) (Some w.call) ≡ Some w.call
     kept = rw silent refl
-by_answer part e s w (Some a) h same told' = record {
+by_answer part e s w (Some a) h same count' = record {
   order = ap (λ xs. xs ++ map (λ o. o.0) s.rest) (map_push (λ a. a.0) s.answers (part, a))
       ∙ append_assoc (map (λ a. a.0) s.answers) (part ∷ []) (map (λ o. o.0) s.rest)
       ∙ ap (λ n. map (λ a. a.0) s.answers ++ (n ∷ map (λ o. o.0) s.rest)) (sym (eqb-true w.part part same))
       ∙ ap (λ o. map (λ a. a.0) s.answers ++ (waiting_part o ++ map (λ o. o.0) s.rest)) (sym h);
-  here = ap (λ o. pending_number (λ call. answer_at call e) (waits_in part o)) h ∙ rw (same, told') refl;
+  here = ap (λ o. pending_number (λ call. answer_at call e) (waits_in part o)) h ∙ rw (same, count') refl;
   there = λ k other. ap (waits_in k) h ∙ rw (ap (λ n. n == k) (eqb-true w.part part same) ∙ other) refl;
 }
 

@@ -35,7 +35,7 @@ FitsFrom s (e ∷ events) =
 abbrev pub Fits : List ThreadSpec → ℕ → PartSpec → List Event → Type 0
 Fits threads index spec journal = FitsFrom (opening_section threads index spec) journal
 
--- each journal is such a run, from that of part `place` on
+-- each journal is such a run, from that of part `index` on
 unfoldable pub AllFit : List ThreadSpec → ℕ → List PartSpec → List (List Event) → Type 0
 AllFit threads index [] [] = Unit {0}
 AllFit threads index [] (journal ∷ journals) = ⊥
@@ -43,7 +43,7 @@ AllFit threads index (spec ∷ specs) [] = ⊥
 AllFit threads index (spec ∷ specs) (journal ∷ journals) =
     Fits threads index spec journal × AllFit threads (suc index) specs journals
 
--- what the sections of these journals leave, from that of part `place` on
+-- what the sections of these journals leave, from that of part `index` on
 unfoldable pub sections_of : List ThreadSpec → ℕ → List PartSpec → List (List Event) → List Done
 sections_of threads index [] journals = []
 sections_of threads index (spec ∷ specs) [] = []

@@ -1,16 +1,15 @@
 //! Injected faults, and bad blocks of a disk.
 
-ghost use Rattle.std.specs.Prelude.{◌≡◌};
+ghost use Rattle.std.specs.Prelude.{◌≡◌, ◌∷◌};
 ghost use Rattle.serde_json.specs.View.{view};
 ghost use Rattle.input_defs.specs.CampaignReading.{member_faults_of};
 ghost use Rattle.input_defs.specs.Reading.{named_of, required};
-ghost use Rattle.input_defs.specs.PartReading.{bad_block_of, fault_kind, fault_named, fault_of};
+ghost use Rattle.input_defs.specs.PartReading.{bad_block_of, fault_keys, fault_kind, fault_named, fault_of};
 ghost use Rattle.input_defs.specs.Views.Readings.{bad_blocks_of, faults_of};
 ghost use Rattle.asm_defs.specs.declared.keys.Key.TheVariants as key;
 ghost use Rattle.scenario_read.specs.Gives.{Gives};
 
 use crate::fields::{check_keys, check_object, field, number_at, word_at};
-use crate::keys::{fault_keys, fault_named};
 use crate::lists::{ItemReader, read_list};
 use crate::stop::{ScenarioFault, at, bad_here};
 use asm_defs::keys::Key;
@@ -75,6 +74,30 @@ fn fault_of(alloc: Global, value: &Value) -> Result<Fault, ScenarioFault>
     Ok(Fault { burst, after, kind })
 }
 
+/// The keys of a fault of a kind.
+fn fault_keys(name: FaultName) -> &'static [Key]
+    ensures { result.now ≡ key.Burst ∷ key.After ∷ key.Kind ∷ fault_keys name }
+{
+    match name {
+        FaultName::Trap | FaultName::Hang => &[Key::Burst, Key::After, Key::Kind],
+        FaultName::Poke | FaultName::Code => {
+            &[Key::Burst, Key::After, Key::Kind, Key::Address, Key::Value]
+        }
+        FaultName::Reg => &[Key::Burst, Key::After, Key::Kind, Key::Register, Key::Value],
+    }
+}
+
+/// The keys of a fault of a kind, without the burst and the instructions before it.
+pub fn kind_keys(name: FaultName) -> &'static [Key]
+    ensures { result.now ≡ key.Kind ∷ fault_keys name }
+{
+    match name {
+        FaultName::Trap | FaultName::Hang => &[Key::Kind],
+        FaultName::Poke | FaultName::Code => &[Key::Kind, Key::Address, Key::Value],
+        FaultName::Reg => &[Key::Kind, Key::Register, Key::Value],
+    }
+}
+
 /// The name of a kind of fault.
 pub fn fault_name(alloc: Global, value: &Value) -> Result<FaultName, ScenarioFault>
     ensures { Gives result (named_of fault_named (view value.now)) }
@@ -82,6 +105,21 @@ pub fn fault_name(alloc: Global, value: &Value) -> Result<FaultName, ScenarioFau
     match value.as_str().and_then(fault_named) {
         None => bad_here(alloc, InputFault::WrongKind),
         Some(name) => Ok(name),
+    }
+}
+
+/// The kind of fault that a name denotes.
+#[tactic(auto, unfolding(input_defs::specs::PartReading::fault_named))]
+fn fault_named(name: &str) -> Option<FaultName>
+    ensures { result ≡ fault_named name.now }
+{
+    match name {
+        "trap" => Some(FaultName::Trap),
+        "hang" => Some(FaultName::Hang),
+        "poke" => Some(FaultName::Poke),
+        "code" => Some(FaultName::Code),
+        "reg" => Some(FaultName::Reg),
+        _ => None,
     }
 }
 

@@ -1,12 +1,12 @@
 //! The keys of each object, and what the names in inputs denote.
 
 ghost use Rattle.std.specs.Prelude.{◌≡◌, ◌∷◌};
-ghost use Rattle.input_defs.specs.PartReading.{fault_named, fault_keys, part_keys};
+ghost use Rattle.input_defs.specs.PartReading.{part_keys};
 ghost use Rattle.input_defs.specs.ScenarioReading.{schedule_named, schedule_keys, op_named, op_keys};
 ghost use Rattle.asm_defs.specs.declared.keys.Key.TheVariants as key;
 
 use asm_defs::keys::Key;
-use input_defs::input::{FaultName, OpName, ScheduleName};
+use input_defs::input::{OpName, ScheduleName};
 use nook_data::classes::Class;
 
 /// The keys of a part, by its class and the scenario's version.
@@ -43,30 +43,6 @@ pub fn part_keys(version: u32, class: Class) -> &'static [Key]
     }
 }
 
-/// The keys of a fault of a kind.
-pub fn fault_keys(name: FaultName) -> &'static [Key]
-    ensures { result.now ≡ key.Burst ∷ key.After ∷ key.Kind ∷ fault_keys name }
-{
-    match name {
-        FaultName::Trap | FaultName::Hang => &[Key::Burst, Key::After, Key::Kind],
-        FaultName::Poke | FaultName::Code => {
-            &[Key::Burst, Key::After, Key::Kind, Key::Address, Key::Value]
-        }
-        FaultName::Reg => &[Key::Burst, Key::After, Key::Kind, Key::Register, Key::Value],
-    }
-}
-
-/// The keys of a fault of a kind, without the burst and the instructions before it.
-pub fn kind_keys(name: FaultName) -> &'static [Key]
-    ensures { result.now ≡ key.Kind ∷ fault_keys name }
-{
-    match name {
-        FaultName::Trap | FaultName::Hang => &[Key::Kind],
-        FaultName::Poke | FaultName::Code => &[Key::Kind, Key::Address, Key::Value],
-        FaultName::Reg => &[Key::Kind, Key::Register, Key::Value],
-    }
-}
-
 /// The keys of a schedule of a kind.
 pub fn schedule_keys(name: ScheduleName) -> &'static [Key]
     ensures { result.now ≡ schedule_keys name }
@@ -90,21 +66,6 @@ pub fn op_keys(name: OpName) -> &'static [Key]
         OpName::Play => &[Key::Part, Key::Op, Key::Samples],
         OpName::Get => &[Key::Part, Key::Op, Key::Key],
         OpName::Set => &[Key::Part, Key::Op, Key::Key, Key::Value],
-    }
-}
-
-/// The kind of fault that a name denotes.
-#[tactic(auto, unfolding(input_defs::specs::PartReading::fault_named))]
-pub fn fault_named(name: &str) -> Option<FaultName>
-    ensures { result ≡ fault_named name.now }
-{
-    match name {
-        "trap" => Some(FaultName::Trap),
-        "hang" => Some(FaultName::Hang),
-        "poke" => Some(FaultName::Poke),
-        "code" => Some(FaultName::Code),
-        "reg" => Some(FaultName::Reg),
-        _ => None,
     }
 }
 

@@ -9,9 +9,8 @@ ghost use Rattle.input_defs.specs.PlanReading.{kind_of, kinds_of, member_lists_o
 ghost use Rattle.plan_defs.specs.Plans.{longest_of, most_faults};
 ghost use Rattle.scenario_read.specs.Gives.{Gives};
 
-use crate::faults::{FaultReader, fault_kind, fault_name, member_faults_of};
+use crate::faults::{FaultReader, fault_kind, fault_name, kind_keys, member_faults_of};
 use crate::fields::{check_keys, check_object, field};
-use crate::keys::kind_keys;
 use crate::lists::{ItemReader, read_list};
 use crate::stop::{ScenarioFault, at};
 use asm_defs::keys::{Key, key_text};

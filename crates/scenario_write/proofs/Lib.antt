@@ -1,6 +1,8 @@
 pub mod Texts
 pub mod Sorted
 pub mod ListsBack
+pub mod PlainMembers
+pub mod FaultsBack
 pub mod PiecesBack
 pub mod NamesApart
 pub mod PartsBack

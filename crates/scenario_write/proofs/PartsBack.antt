@@ -32,7 +32,8 @@ use Rattle.nook_data.specs.declared.scenario.ThreadSpec.{ThreadSpec}
 use Rattle.reading_laws.proofs.ImageJson.{image_plain, image_read}
 use Rattle.scenario_write.proofs.ListsBack.{Reads, list_back, no_less, numbers_back, reads_all, word_within}
 use Rattle.scenario_write.proofs.NamesApart.{apart}
-use Rattle.scenario_write.proofs.PiecesBack.{bad_block_back, fault_back, step_back}
+use Rattle.scenario_write.proofs.FaultsBack.{fault_back}
+use Rattle.scenario_write.proofs.PiecesBack.{bad_block_back, step_back}
 use Rattle.scenario_write.proofs.Sorted.{read_sorted, sorted}
 use Rattle.scenario_write.specs.ScenarioText.{bad_block_data, driver_data, fault_data, list_data, numbers_data, part_data, step_data, thread_data}
 

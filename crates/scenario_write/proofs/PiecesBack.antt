@@ -1,20 +1,17 @@
--- Schedules, faults, bad blocks and operations are read back.
+-- Schedules, bad blocks and operations are read back.
 use Rattle.std.proofs.Common.{◌≡◌, ℕ, ◌-◌, ◌<◌, ◌≤◌, Ok, refl, arith}
 use Rattle.std.proofs.lemmas.Bool.{le-ltb}
-use Rattle.input_defs.specs.PartReading.{bad_block_of, fault_kind, fault_named, fault_of}
+use Rattle.input_defs.specs.PartReading.{bad_block_of}
 use Rattle.input_defs.specs.ScenarioReading.{op_by, op_named, op_of, schedule_by, schedule_named, schedule_of}
-use Rattle.nook_data.specs.Valid.{IsValidBadBlock, IsValidFault, IsValidKind, IsValidOp, IsValidSchedule, IsWord}
+use Rattle.nook_data.specs.Valid.{IsValidBadBlock, IsValidOp, IsValidSchedule}
 use Rattle.nook_data.specs.Views.Limits.{IsValidStep}
 use Rattle.nook_data.specs.Views.Limits.{IsPick}
 use Rattle.nook_data.specs.declared.scenario.BadBlock.{BadBlock}
-use Rattle.nook_data.specs.declared.scenario.Fault.{Fault}
-use Rattle.nook_data.specs.declared.scenario.FaultKind.{FaultKind}
-use Rattle.nook_data.specs.declared.scenario.FaultKind.TheVariants as strikes
 use Rattle.nook_data.specs.declared.calls.Op.{Op}
 use Rattle.nook_data.specs.declared.calls.Op.TheVariants as op
 use Rattle.nook_data.specs.declared.scenario.ScheduleSpec.{ScheduleSpec}
 use Rattle.nook_data.specs.declared.scenario.ScheduleSpec.TheVariants as schedule
-use Rattle.scenario_write.specs.ScenarioText.{bad_block_data, fault_data, schedule_data, step_data}
+use Rattle.scenario_write.specs.ScenarioText.{bad_block_data, schedule_data, step_data}
 use Rattle.scenario_write.proofs.ListsBack.{no_less, numbers_back, word_within, words_back}
 use Rattle.scenario_write.proofs.Sorted.{sorted}
 
@@ -36,50 +33,6 @@ bad_block_back blocks bad h =
       no_less bad.after,
       le-ltb 4294967295 bad.after (word_within bad.after h.after),
     ) refl
-
-fault_by : (burst after : ℕ) (kind : FaultKind) → 1 ≤ burst → IsWord burst → after ≤ 4095 → IsValidKind kind
-    → fault_of (sorted (fault_data (record { burst = burst; after = after; kind = kind }))) ≡ Ok (record { burst = burst; after = after; kind = kind })
-unfolding fault_of fault_data fault_named fault_kind
-fault_by burst after strikes.Trap one small few h =
-    rw (le-ltb burst 1 one, le-ltb 4294967295 burst (word_within burst small), no_less after, le-ltb 4095 after few) refl
-fault_by burst after strikes.Hang one small few h =
-    rw (le-ltb burst 1 one, le-ltb 4294967295 burst (word_within burst small), no_less after, le-ltb 4095 after few) refl
-fault_by burst after (strikes.Poke address value) one small few h =
-    rw (
-      le-ltb burst 1 one,
-      le-ltb 4294967295 burst (word_within burst small),
-      no_less after,
-      le-ltb 4095 after few,
-      no_less address,
-      le-ltb 4294967295 address (word_within address h.0),
-      no_less value,
-      le-ltb 4294967295 value (word_within value h.1),
-    ) refl
-fault_by burst after (strikes.Code address value) one small few h =
-    rw (
-      le-ltb burst 1 one,
-      le-ltb 4294967295 burst (word_within burst small),
-      no_less after,
-      le-ltb 4095 after few,
-      no_less address,
-      le-ltb 4294967295 address (word_within address h.0),
-      no_less value,
-      le-ltb 4294967295 value (word_within value h.1),
-    ) refl
-fault_by burst after (strikes.Reg register value) one small few h =
-    rw (
-      le-ltb burst 1 one,
-      le-ltb 4294967295 burst (word_within burst small),
-      no_less after,
-      le-ltb 4095 after few,
-      no_less register,
-      le-ltb 15 register h.0,
-      no_less value,
-      le-ltb 4294967295 value (word_within value h.1),
-    ) refl
-
-pub fault_back : (fault : Fault) → IsValidFault fault → fault_of (sorted (fault_data fault)) ≡ Ok fault
-fault_back fault h = fault_by fault.burst fault.after fault.kind h.burst.0 h.burst.1 h.after h.kind
 
 step_by : (parts part : ℕ) (o : Op) → part < parts → IsValidOp o → op_of parts (sorted (step_data (part, o))) ≡ Ok (part, o)
 unfolding op_of step_data op_named op_by

@@ -1,23 +1,18 @@
 -- A scenario's value has only texts and unsigned numbers, with little nesting.
-use Rattle.std.proofs.Common.{◌≡◌, ℕ, ◌^◌, ◌<◌, ◌≤◌, true, IsUtf8, List, [], ◌∷◌, length, refl, arith}
+use Rattle.std.proofs.Common.{ℕ, ◌^◌, ◌<◌, ◌≤◌, true, IsUtf8, List, [], ◌∷◌, length, refl, arith}
 use Rattle.std.specs.Prelude.{All, codes, if◌then◌else◌, Bool, false}
-use Rattle.std.proofs.lemmas.List.Elements.{All-head, All-tail}
-use Rattle.json.proofs.Printed.Utf8.{are_ascii, IsUtf8-are_ascii}
-use Rattle.serde_json.specs.Data.{Data, Members, no_members}
+use Rattle.json.proofs.Printed.Utf8.{IsUtf8-are_ascii}
+use Rattle.serde_json.specs.Data.{Members, no_members}
 use Rattle.serde_json.specs.Read.{max_depth}
 use Rattle.nook_data.proofs.NameText.{name_utf8}
 use Rattle.nook_data.specs.ClassNames.{class_text}
-use Rattle.asm_defs.specs.Keys.{key_text}
-use Rattle.nook_data.specs.Valid.{FitsClass, IsValidBadBlock, IsValidFault, IsValidKind, IsValidOp, IsValidPart}
-use Rattle.nook_data.specs.Valid.{IsValidScenario, IsValidSchedule, IsValidThread, IsWord}
+use Rattle.nook_data.specs.Valid.{FitsClass, IsValidBadBlock, IsValidFault, IsValidOp, IsValidPart}
+use Rattle.nook_data.specs.Valid.{IsValidScenario, IsValidSchedule, IsValidThread}
 use Rattle.nook_data.specs.Views.Limits.{IsValidFrame, IsValidStep}
 use Rattle.nook_data.specs.Views.Limits.{IsPick}
 use Rattle.nook_data.specs.declared.scenario.BadBlock.{BadBlock}
 use Rattle.nook_data.specs.declared.classes.Class.{Class}
 use Rattle.nook_data.specs.declared.classes.Class.TheVariants as class
-use Rattle.nook_data.specs.declared.scenario.Fault.{Fault}
-use Rattle.nook_data.specs.declared.scenario.FaultKind.{FaultKind}
-use Rattle.nook_data.specs.declared.scenario.FaultKind.TheVariants as strikes
 use Rattle.nook_data.specs.declared.calls.Op.{Op}
 use Rattle.nook_data.specs.declared.calls.Op.TheVariants as op
 use Rattle.nook_data.specs.declared.scenario.PartSpec.{PartSpec}
@@ -25,35 +20,12 @@ use Rattle.nook_data.specs.declared.scenario.Scenario.{Scenario}
 use Rattle.nook_data.specs.declared.scenario.ScheduleSpec.{ScheduleSpec}
 use Rattle.nook_data.specs.declared.scenario.ScheduleSpec.TheVariants as schedule
 use Rattle.nook_data.specs.declared.scenario.ThreadSpec.{ThreadSpec}
-use Rattle.asm_defs.specs.declared.keys.Key.{Key}
 use Rattle.asm_defs.specs.declared.keys.Key.TheVariants as key
 use Rattle.reading_laws.proofs.ImageJson.{image_plain}
-use Rattle.reading_laws.proofs.PlainData.{ArePlain, ArePlainMembers, IsPlain}
-use Rattle.scenario_write.specs.ScenarioText.{arrival_members, at, bad_block_data, bad_members, disk_members, fault_data, has_bad, items_with, kind_members, list_data, number_data, numbers_data, op_members, part_data, part_members, scenario_data, schedule_data, step_data, thread_data}
-
--- ---- members and lists
-
-with : (n : ℕ) (k : Key) (d : Data) (more : Members) → are_ascii (key_text k) ≡ true → IsPlain n d → ArePlainMembers n more → ArePlainMembers n (at k d more)
-with n k d more e p q = (IsUtf8-are_ascii (key_text k) e, p, q)
-
-text : (s : List ℕ) → are_ascii s ≡ true → IsUtf8 s
-text s e = IsUtf8-are_ascii s e
-
-named : (k : Key) → are_ascii (key_text k) ≡ true → IsUtf8 (key_text k)
-named k e = IsUtf8-are_ascii (key_text k) e
-
-wide : (n : ℕ) → IsWord n → n < 2 ^ 64
-wide n h = omega (arith, h)
-
-items_plain : {T : Type 0} (n : ℕ) (data_of : T → Data) (P : T → Type 0) → ((x : T) → P x → IsPlain n (data_of x)) → (xs : List T) → All P xs → ArePlain n (items_with data_of xs)
-items_plain n data_of P each [] h = tt
-items_plain n data_of P each (x ∷ xs) h = (each x (All-head P x xs h), items_plain n data_of P each xs (All-tail P x xs h))
-
-list_plain : {T : Type 0} (n m : ℕ) (data_of : T → Data) (P : T → Type 0) → m < n → ((x : T) → P x → IsPlain m (data_of x)) → (xs : List T) → All P xs → IsPlain n (list_data data_of xs)
-list_plain n m data_of P deep each xs h = (m, deep, items_plain m data_of P each xs h)
-
-words_plain : (n : ℕ) (ns : List ℕ) → 0 < n → All IsWord ns → IsPlain n (numbers_data ns)
-words_plain n ns deep h = list_plain n 0 number_data IsWord deep wide ns h
+use Rattle.reading_laws.proofs.PlainData.{ArePlainMembers, IsPlain}
+use Rattle.scenario_write.proofs.FaultsBack.{fault_plain}
+use Rattle.scenario_write.proofs.PlainMembers.{list_plain, named, text, wide, with, words_plain}
+use Rattle.scenario_write.specs.ScenarioText.{arrival_members, at, bad_block_data, bad_members, disk_members, fault_data, has_bad, list_data, number_data, numbers_data, op_members, part_data, part_members, scenario_data, schedule_data, step_data, thread_data}
 
 -- ---- pieces
 
@@ -78,25 +50,6 @@ bad_plain n blocks bad deep few h = (
   deep,
   with 0 key.Block (number_data bad.block) (at key.After (number_data bad.after) no_members) refl (omega (arith, h.block, few))
       (with 0 key.After (number_data bad.after) no_members refl (wide bad.after h.after) tt),
-)
-
-kind_plain : (kind : FaultKind) → IsValidKind kind → ArePlainMembers 0 (kind_members kind)
-kind_plain strikes.Trap h = (named key.Kind refl, text (codes "trap") refl, tt)
-kind_plain strikes.Hang h = (named key.Kind refl, text (codes "hang") refl, tt)
-kind_plain (strikes.Poke address value) h =
-    (named key.Kind refl, text (codes "poke") refl, (named key.Address refl, wide address h.0, (named key.Value refl, wide value h.1, tt)))
-kind_plain (strikes.Code address value) h =
-    (named key.Kind refl, text (codes "code") refl, (named key.Address refl, wide address h.0, (named key.Value refl, wide value h.1, tt)))
-kind_plain (strikes.Reg register value) h =
-    (named key.Kind refl, text (codes "reg") refl, (named key.Register refl, omega (arith, h.0), (named key.Value refl, wide value h.1, tt)))
-
-fault_plain : (n : ℕ) (fault : Fault) → 0 < n → IsValidFault fault → IsPlain n (fault_data fault)
-unfolding fault_data
-fault_plain n fault deep h = (
-  0,
-  deep,
-  with 0 key.Burst (number_data fault.burst) (at key.After (number_data fault.after) (kind_members fault.kind)) refl (wide fault.burst h.burst.1)
-      (with 0 key.After (number_data fault.after) (kind_members fault.kind) refl (omega (arith, h.after)) (kind_plain fault.kind h.kind)),
 )
 
 op_plain : (o : Op) → IsValidOp o → ArePlainMembers 1 (op_members o)

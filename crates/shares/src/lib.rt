@@ -17,7 +17,8 @@ pub fn halves_part_a_share()
 
 /// A joined share has the points of both shares.
 pub fn joining_adds_points()
-    ensures { (a b : Share) (point : ℕ → Bool) → owns (a ++ b) point ≡ (owns a point || owns b point) }
+    ensures { (a b : Share) (point : ℕ → Bool)
+        → owns (a ++ b) point ≡ (owns a point || owns b point) }
 {}
 
 /// The whole share has every point.

@@ -40,7 +40,11 @@ impl<'a> Model for Script<'a> {
 
     ghost Value = { ThreadState };
 
-    ghost view = { λ s. record { rest = s.rest.now; waiting = waiting_of s.waiting; answers = s.answers } };
+    ghost view = { λ s. record {
+      rest = s.rest.now;
+      waiting = waiting_of s.waiting;
+      answers = s.answers;
+    } };
 }
 
 impl<'a> Script<'a> {

@@ -57,6 +57,13 @@ pub struct Simulating<'a> {
     ready: Vec<u16>,
 }
 
+/// An event, and the part that made it.
+#[derive(Drop)]
+struct PartEvent<'a> {
+    part: u32,
+    event: &'a Event,
+}
+
 impl<'a> Model for Simulating<'a> {
     ghost use Rattle.std.specs.Prelude.{◌≤◌, length, IfSome};
     ghost use Rattle.run_defs.specs.Simulation.{Simulation};
@@ -65,9 +72,14 @@ impl<'a> Model for Simulating<'a> {
 
     ghost Value = { Simulation };
 
-    ghost view = { λ s. record { order = s.schedule; parts = s.seats.items; threads = s.threads.items } };
+    ghost view = { λ s. record {
+      order = s.schedule;
+      parts = s.seats.items;
+      threads = s.threads.items;
+    } };
 
-    ghost invariant = { λ s. (length s.seats.items ≤ MOST_PARTS) × (length s.threads.items ≤ MOST_THREADS)
+    ghost invariant = { λ s. (length s.seats.items ≤ MOST_PARTS)
+        × (length s.threads.items ≤ MOST_THREADS)
         × IfSome s.able (λ able. AreAble s.seats.items s.threads.items able.items) };
 }
 
@@ -418,8 +430,7 @@ fn hear_all(
             &mut threads[index],
             &mut able[index],
             seats,
-            part,
-            event,
+            &PartEvent { part, event },
         )?;
     }
     Ok(())
@@ -434,17 +445,16 @@ fn hear(
     thread: &mut Script,
     able: &mut bool,
     seats: &[SimulatedPart],
-    part: u32,
-    event: &Event,
+    made: &PartEvent,
 ) -> Result<(), NoMemory>
-    requires { concerns number part event.now thread.old ≡ false
+    requires { concerns number made.now.part made.now.event.now thread.old ≡ false
         → able.old ≡ has_step number seats.now thread.old }
-    ensures thread { OnOk result
-        (thread.new ≡ thread_after part event.now (started number part event.now thread.old)) }
+    ensures thread { OnOk result (thread.new ≡ thread_after made.now.part made.now.event.now
+        (started number made.now.part made.now.event.now thread.old)) }
     ensures able { OnOk result (able.new ≡ has_step number seats.now thread.new) }
 {
-    if thread.is_concerned(number, part, event) {
-        thread.hear(alloc, number, part, event)?;
+    if thread.is_concerned(number, made.part, made.event) {
+        thread.hear(alloc, number, made.part, made.event)?;
         *able = thread.has_step(number, seats);
     }
     Ok(())

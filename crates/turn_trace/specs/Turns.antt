@@ -6,6 +6,7 @@ use Rattle.nook_data.specs.declared.machine.Instr.{Instr}
 use Rattle.nook_data.specs.declared.machine.Instr.TheVariants as instr
 use Rattle.machine_defs.specs.Burst.{acts_of}
 use Rattle.machine_defs.specs.Machine.{decode_of}
+use Rattle.machine_defs.specs.Mnemonics.{target_of}
 use Rattle.machine_defs.specs.Pages.{fetch_word}
 use Rattle.machine_defs.specs.Execution.{Machine, Executed}
 use Rattle.turn_trace.specs.declared.traced.TracedTurn.{TracedTurn}
@@ -16,33 +17,6 @@ use Rattle.turn_trace.specs.declared.traced.TracedTurn.{TracedTurn}
 abbrev pub instr_in : Option ℕ → Option Instr
 instr_in None = None
 instr_in (Some word) = decode_of word
-
--- the register that an instruction sets
-abbrev pub target_of : Instr → Option ℕ
-target_of (instr.Li a imm) = Some a
-target_of (instr.Lui a imm) = Some a
-target_of (instr.Mov a b) = Some a
-target_of (instr.Add a b) = Some a
-target_of (instr.Sub a b) = Some a
-target_of (instr.And a b) = Some a
-target_of (instr.Or a b) = Some a
-target_of (instr.Xor a b) = Some a
-target_of (instr.Shl a b) = Some a
-target_of (instr.Shr a b) = Some a
-target_of (instr.Addi a b imm) = Some a
-target_of (instr.Ld a b imm) = Some a
-target_of (instr.St a b imm) = None
-target_of (instr.Jmp imm) = None
-target_of (instr.Beq a b imm) = None
-target_of (instr.Bne a b imm) = None
-target_of (instr.Blt a b imm) = None
-target_of (instr.Jal a imm) = Some a
-target_of (instr.Jr a) = None
-target_of (instr.In a imm) = Some a
-target_of (instr.Out a imm) = None
-target_of (instr.Kcall imm) = None
-target_of (instr.Ret a) = None
-target_of instr.Fault = None
 
 -- a register with its word
 abbrev pub with_word : Cpu → Option ℕ → Option (ℕ × ℕ)

@@ -4,6 +4,7 @@
 
 mod laws;
 mod lines;
+mod striking;
 mod traced;
 mod tracing;
 mod writing;

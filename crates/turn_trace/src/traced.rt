@@ -5,9 +5,11 @@ ghost use Rattle.driver_isa.specs.Fields.{has_registers};
 ghost use Rattle.driver_isa.specs.Turns.{machine_of};
 ghost use Rattle.machine_defs.specs.Execution.{turn as machine_turn};
 ghost use Rattle.machine_defs.specs.Pages.{fetch_word};
-ghost use Rattle.turn_trace.specs.Turns.{instr_in, jumped_to, set_by, stored_by, target_of, traced, traced_of};
+ghost use Rattle.machine_defs.specs.Mnemonics.{target_of};
+ghost use Rattle.turn_trace.specs.Turns.{instr_in, jumped_to, set_by, stored_by, traced, traced_of};
 ghost use Rattle.turn_trace.specs.Turns.{with_word};
 
+use driver_isa::instructions::{fields_of, row_of};
 use driver_isa::{Bus, decode, run_turn};
 use nook_data::journal::SpareRooms;
 use nook_data::lists::Word;
@@ -50,7 +52,8 @@ pub fn take_turn<B: Bus>(
 ) -> Result<TurnTaken, NoMemory>
     ensures recorded { IfOk result (λ turned. turned.recorded
         ≡ traced number (machine_of cpu.old (B.words bus.old) (B.device bus.old))
-        (machine_turn (B.entries bus.old) (machine_of cpu.old (B.words bus.old) (B.device bus.old)))) }
+        (machine_turn (B.entries bus.old)
+        (machine_of cpu.old (B.words bus.old) (B.device bus.old)))) }
     ensures machine { OnOk result ((machine_turn (B.entries bus.old)
         (machine_of cpu.old (B.words bus.old) (B.device bus.old))).machine
         ≡ machine_of cpu.new (B.words bus.new) (B.device bus.new)) }
@@ -149,22 +152,11 @@ fn target_of(instr: Instr) -> Option<u8>
     ensures target { result ≡ target_of instr }
     ensures below { IfSome result (λ a. a < 16) }
 {
-    match instr {
-        Instr::Li { a, .. }
-        | Instr::Lui { a, .. }
-        | Instr::Mov { a, .. }
-        | Instr::Add { a, .. }
-        | Instr::Sub { a, .. }
-        | Instr::And { a, .. }
-        | Instr::Or { a, .. }
-        | Instr::Xor { a, .. }
-        | Instr::Shl { a, .. }
-        | Instr::Shr { a, .. }
-        | Instr::Addi { a, .. }
-        | Instr::Ld { a, .. }
-        | Instr::Jal { a, .. }
-        | Instr::In { a, .. } => Some(a),
-        _ => None,
+    let fields = fields_of(instr);
+    if row_of(fields.mnemonic).sets {
+        Some(fields.a)
+    } else {
+        None
     }
 }
 

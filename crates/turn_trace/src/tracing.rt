@@ -1,21 +1,21 @@
 //! One burst, traced instruction by instruction.
 
-ghost use Rattle.std.specs.Prelude.{◌≡◌, ◌++◌, false, map, IfOk, None, OnOk, Some};
+ghost use Rattle.std.specs.Prelude.{◌≡◌, map, IfOk, OnOk};
 ghost use Rattle.driver_isa.specs.Turns.{machine_of};
-ghost use Rattle.machine_defs.specs.Burst.{strikes_at, struck_machine, trap_of};
+ghost use Rattle.machine_defs.specs.Burst.{strikes_at};
 ghost use Rattle.turn_trace.specs.Bursts.{burst_trace, strike as struck_step, struck_at};
 ghost use Rattle.nook_io.specs.Changes.{change};
 ghost use Rattle.report_text.specs.Writing.{Wrote};
-ghost use Rattle.turn_trace.specs.Lines.{is_refused, step_lines};
+ghost use Rattle.turn_trace.specs.Lines.{step_lines};
 
+use crate::striking::strike;
 use crate::traced::take_turn;
 use crate::writing::{write_strike, write_turn};
 use driver_isa::Bus;
 use nook_data::journal::SpareRooms;
 use nook_data::limits::{MOST_ACTS, MOST_INSTRUCTIONS};
 use nook_data::machine::{Cpu, TrapCause};
-use nook_data::memory_map::TEXT_WORDS;
-use nook_data::scenario::{Fault, FaultKind};
+use nook_data::scenario::Fault;
 use nook_io::outside::Sink;
 use report_text::{Line, WriteStop};
 use std::alloc::Global;
@@ -24,13 +24,6 @@ use std::alloc::Global;
 #[derive(Drop)]
 struct Struck<'a> {
     rest: &'a [Fault],
-    stopped: Option<TrapCause>,
-}
-
-/// Whether a fault was refused, and its trap, if it is one.
-#[derive(Clone, Copy)]
-struct Hit {
-    refused: bool,
     stopped: Option<TrapCause>,
 }
 
@@ -48,12 +41,14 @@ pub fn trace_burst<'a, B: Bus, K: Sink>(
 ) -> Result<&'a [Fault], WriteStop>
     ensures written { Wrote (change K.held K.count sink.old sink.new) result
         (step_lines (B.entries bus.old)
-        (burst_trace (B.entries bus.old) faults.now (machine_of cpu.old (B.words bus.old) (B.device bus.old))).steps) }
+        (burst_trace (B.entries bus.old) faults.now
+        (machine_of cpu.old (B.words bus.old) (B.device bus.old))).steps) }
     ensures unstruck { IfOk result (λ rest. rest.now
         ≡ (burst_trace (B.entries bus.old) faults.now
         (machine_of cpu.old (B.words bus.old) (B.device bus.old))).unstruck) }
     ensures left { OnOk result (machine_of cpu.new (B.words bus.new) (B.device bus.new)
-        ≡ (burst_trace (B.entries bus.old) faults.now (machine_of cpu.old (B.words bus.old) (B.device bus.old))).left) }
+        ≡ (burst_trace (B.entries bus.old) faults.now
+        (machine_of cpu.old (B.words bus.old) (B.device bus.old))).left) }
 {
     let mut spare = SpareRooms::new(alloc);
     let mut line = Line::new(alloc);
@@ -119,53 +114,4 @@ fn strike_due<'a, B: Bus, K: Sink>(
         rest,
         stopped: None,
     })
-}
-
-/// Strikes one fault. A refused poke or code fault does nothing; nor does a fault of a register that does not exist.
-fn strike<B: Bus>(kind: FaultKind, cpu: &mut Cpu, bus: &mut B) -> Hit
-    ensures struck { struck_machine (B.entries bus.old) kind (machine_of cpu.old (B.words bus.old) (B.device bus.old))
-        ≡ machine_of cpu.new (B.words bus.new) (B.device bus.new) }
-    ensures refused { result.refused ≡ is_refused (B.entries bus.old) kind }
-    ensures trap { result.stopped ≡ trap_of kind }
-    ensures entries { B.entries bus.new ≡ B.entries bus.old }
-    ensures held { B.held bus.new ≡ B.held bus.old }
-{
-    match kind {
-        FaultKind::Trap => stopping(TrapCause::Injected),
-        FaultKind::Hang => stopping(TrapCause::Hang),
-        FaultKind::Poke { address, value } => going_on(!bus.write(address, value)),
-        FaultKind::Code { address, value } => {
-            if address >= TEXT_WORDS {
-                return going_on(true);
-            }
-            bus.poke_text(address, value);
-            going_on(false)
-        }
-        FaultKind::Reg { register, value } => {
-            if register < 16 {
-                cpu.registers[register as usize] = value;
-            }
-            going_on(false)
-        }
-    }
-}
-
-/// A fault that is a trap.
-fn stopping(cause: TrapCause) -> Hit
-    ensures { result ≡ record { refused = false; stopped = Some cause } }
-{
-    Hit {
-        refused: false,
-        stopped: Some(cause),
-    }
-}
-
-/// A fault that is not a trap.
-fn going_on(refused: bool) -> Hit
-    ensures { result ≡ record { refused = refused; stopped = None } }
-{
-    Hit {
-        refused,
-        stopped: None,
-    }
 }

@@ -46,7 +46,7 @@ pub fn images_come_back(image: &Image)
 {}
 
 /// A word that decodes to an instruction is the only word of that instruction.
-#[tactic(auto, using(asm_defs::proofs::AsmDecoded::encodes_back))]
+#[tactic(auto, using(machine_defs::proofs::Words::encodes_back))]
 pub fn decoded_words_encode_back()
     ensures { (word : ℕ) (instr : Instr) → word < 2 ^ 32 → decode_of word ≡ Some instr → encode_of instr ≡ word }
 {}
@@ -137,7 +137,7 @@ pub fn too_many_words()
 
 /// Each mnemonic has its own name, and the mnemonic and the fields of an instruction make that instruction
 /// again.
-#[tactic(auto, using(asm_defs::proofs::AsmInstrs::named_mnemonic, asm_defs::proofs::AsmInstrs::instr_of_fields))]
+#[tactic(auto, using(asm_defs::proofs::AsmInstrs::named_mnemonic, machine_defs::proofs::Instructions::instr_of_fields))]
 pub fn mnemonics_are_distinguished()
     ensures named { (m : Mnemonic) → mnemonic_named (mnemonic_text m) ≡ Some m }
     ensures made { (i : Instr) → instr_with (fields_of i).mnemonic (fields_of i).a (fields_of i).b (fields_of i).imm

@@ -28,7 +28,7 @@ pub fn entries_are_counted(class: Class)
     ensures { entry_count class ≡ length (entry_names class) }
 {}
 
-/// The status 256 + `place` reports that the block with this index in a read or write failed.
+/// The status 256 + `index` reports that the block with this index in a read or write failed.
 #[tactic(auto, using(crate::proofs::ClassLaws::io_status_accepted))]
 pub fn block_statuses_are_accepted(op: &Op, index: u32)
     requires { index < blocks_of_op op.now }

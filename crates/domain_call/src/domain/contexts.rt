@@ -25,7 +25,8 @@ impl Domain {
         requires context { context < CONTEXTS }
         requires free { list_any (is_buffer_of context) self.old.state.entries ≡ false }
         requires few { IfSome (buffer_of op.now) (λ l. length l.words ≤ BUFFER_WORDS) }
-        ensures { self.new ≡ record self.old { state = entered_domain context index op.now self.old.state } }
+        ensures { self.new
+            ≡ record self.old { state = entered_domain context index op.now self.old.state } }
     {
         let arguments = copy_in(&mut self.pages, &mut self.tracker, context, op);
         let inside = self.at_entry(context, index, arguments);
@@ -37,7 +38,8 @@ impl Domain {
     #[tactic(auto, unfolding(part_defs::specs::Domain::plainly_entered))]
     pub fn enter_plain(&mut self, context: u8, index: u32)
         requires { context < CONTEXTS }
-        ensures { self.new ≡ record self.old { state = plainly_entered context index self.old.state } }
+        ensures { self.new
+            ≡ record self.old { state = plainly_entered context index self.old.state } }
     {
         let none = Args {
             r1: 0,
@@ -51,7 +53,8 @@ impl Domain {
     /// A context at an entry: r1 to r3 have its arguments, r14 the end of the context's stack.
     fn at_entry(&self, context: u8, index: u32, args: Args) -> Context
         requires { context < CONTEXTS }
-        ensures { result ≡ entry_context (slice_index self.now.state.starts index) context (arguments args) }
+        ensures { result
+            ≡ entry_context (slice_index self.now.state.starts index) context (arguments args) }
     {
         let mut registers = [0; 16];
         registers[1] = args.r1;

@@ -34,7 +34,8 @@ impl Domain {
     #[tactic(auto, unfolding(part_defs::specs::Domain::collected_domain), using(crate::proofs::Loans::lent_collected))]
     pub fn collect(&mut self) -> Result<Released, NoMemory>
         ensures released { IfOk result (λ ended. ended ≡ released self.old.state.entries) }
-        ensures ok { OnOk result (self.new ≡ record self.old { state = collected_domain self.old.state }) }
+        ensures ok { OnOk result
+            (self.new ≡ record self.old { state = collected_domain self.old.state }) }
         ensures err { OnErr result (self.new ≡ self.old) }
     {
         let ended = self.tracker.collect()?;
@@ -44,7 +45,8 @@ impl Domain {
 
     /// Resets the device: its registers get the class's defaults; a disk's medium stays.
     pub fn reset(&mut self)
-        ensures { self.new ≡ record self.old { state = with_reset (defaults_of self.old.class) self.old.state } }
+        ensures { self.new
+            ≡ record self.old { state = with_reset (defaults_of self.old.class) self.old.state } }
     {
         self.device.reset();
     }
@@ -55,7 +57,8 @@ impl Domain {
     pub fn load(&mut self, image: &Image) -> Result<(), NoMemory>
         requires text { length image.now.text ≤ TEXT_WORDS }
         requires initial { length image.now.initial ≤ DATA_WORDS }
-        ensures ok { OnOk result (self.new ≡ record self.old { state = loaded_domain image.now self.old.state }) }
+        ensures ok { OnOk result
+            (self.new ≡ record self.old { state = loaded_domain image.now self.old.state }) }
         ensures err { OnErr result (self.new ≡ self.old) }
     {
         self.pages.load(image)
@@ -68,7 +71,9 @@ impl Domain {
         requires some { 1 ≤ length frame }
         requires most { length frame ≤ MOST_FRAME_WORDS }
         ensures kept { result ≡ has_room self.old.state.device }
-        ensures device { self.new ≡ record self.old { state = with_device (with_arrival frame self.old.state.device) self.old.state } }
+        ensures device { self.new ≡ record self.old {
+          state = with_device (with_arrival frame self.old.state.device) self.old.state;
+        } }
     {
         self.device.arrive(frame)
     }

@@ -21,7 +21,8 @@ impl Domain {
     /// names the first argument that fails; 0 is the service itself. The context is at most 16.
     pub fn check(&self, context: u8, number: u32) -> Result<Service, BadParam>
         requires { context < CONTEXTS }
-        ensures checked { result ≡ checked number (first_argument context self.now.state) (second_argument context self.now.state) self.now.class self.now.state.entries }
+        ensures checked { result ≡ checked number (first_argument context self.now.state)
+            (second_argument context self.now.state) self.now.class self.now.state.entries }
         ensures can { IfOk result (λ service. can_serve service ≡ true) }
     {
         let (first, second) = self.arguments(context);
@@ -43,7 +44,10 @@ impl Domain {
         requires passed { can_serve service ≡ true }
         requires moved { MOST_FRAME_WORDS ≤ moved }
         requires frame { MOST_FRAME_WORDS ≤ frame }
-        ensures domain { self.new ≡ record self.old { state = result_set context result.answer (with_served (served_in self.old service queue.old) self.old.state) } }
+        ensures domain { self.new ≡ record self.old {
+          state = result_set context result.answer
+              (with_served (served_in self.old service queue.old) self.old.state);
+        } }
         ensures queue { queue.new ≡ (served_in self.old service queue.old).queue }
         ensures answer { result.answer ≡ (served_in self.old service queue.old).answer }
         ensures moved { result.moved ≡ (served_in self.old service queue.old).moved }
@@ -65,7 +69,9 @@ impl Domain {
         requires passed { can_serve service ≡ true }
         requires moved { MOST_FRAME_WORDS ≤ moved }
         requires frame { MOST_FRAME_WORDS ≤ frame }
-        ensures domain { self.new ≡ record self.old { state = with_served (served_in self.old service queue.old) self.old.state } }
+        ensures domain { self.new ≡ record self.old {
+          state = with_served (served_in self.old service queue.old) self.old.state;
+        } }
         ensures queue { queue.new ≡ (served_in self.old service queue.old).queue }
         ensures answer { result.answer ≡ (served_in self.old service queue.old).answer }
         ensures moved { result.moved ≡ (served_in self.old service queue.old).moved }
@@ -91,7 +97,8 @@ impl Domain {
 
     /// The driver failed: object 0 records the number of failures, and the shadow's context is freed.
     pub fn fail(&mut self, failures: u32)
-        ensures { self.new ≡ record self.old { state = noted 4 failures (without_shadow self.old.state) } }
+        ensures { self.new
+            ≡ record self.old { state = noted 4 failures (without_shadow self.old.state) } }
     {
         self.contexts[SHADOW as usize] = None;
         self.note(4, failures);

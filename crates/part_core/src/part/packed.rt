@@ -32,7 +32,8 @@ impl Model for PackedPart {
 
     ghost view = { λ s. record { state = s.state.value; journal = s.journal.list } };
 
-    ghost invariant = { λ s. IsKept (record { state = s.state.value; journal = s.journal.list }) × AreSameFaults s.script s.state.value.spec.faults };
+    ghost invariant = { λ s. IsKept (record { state = s.state.value; journal = s.journal.list })
+        × AreSameFaults s.script s.state.value.spec.faults };
 }
 
 impl Drop for PackedPart {

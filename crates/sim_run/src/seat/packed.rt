@@ -30,7 +30,8 @@ impl<'a> Model for PackedSeat<'a> {
 
     ghost view = { λ s. record { run = s.part; coming = s.coming.now } };
 
-    ghost invariant = { λ s. (s.has_recovery ≡ is_some (next_recovery s.part.state)) × (s.has_arrival ≡ is_some (arrival s.part s.coming.now)) };
+    ghost invariant = { λ s. (s.has_recovery ≡ is_some (next_recovery s.part.state))
+        × (s.has_arrival ≡ is_some (arrival s.part s.coming.now)) };
 }
 
 impl<'a> SimulatedPart<'a> {

@@ -34,9 +34,14 @@ impl<'a> Model for PackedSimulation<'a> {
 
     ghost Value = { Simulation };
 
-    ghost view = { λ s. record { order = round 0; parts = s.seats.items; threads = s.threads.items } };
+    ghost view = { λ s. record {
+      order = round 0;
+      parts = s.seats.items;
+      threads = s.threads.items;
+    } };
 
-    ghost invariant = { λ s. (length s.seats.items ≤ MOST_PARTS) × (length s.threads.items ≤ MOST_THREADS)
+    ghost invariant = { λ s. (length s.seats.items ≤ MOST_PARTS)
+        × (length s.threads.items ≤ MOST_THREADS)
         × IfSome s.able (λ able. AreAble s.seats.items s.threads.items able.items) };
 }
 

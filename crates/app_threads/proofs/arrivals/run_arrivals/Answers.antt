@@ -21,13 +21,13 @@ pub returns-in_err-arrive_next-clause-ends : goal.returns-in_err-arrive_next-cla
 returns-in_err-arrive_next-clause-ends g c =
     let q = err_from_is_err_and c.from_residual.result c.from_residual.ensures.1 in
     rw (q.1, q.2)
-    (frames_stopped (map g.D.DeskLike.spec c.args.desks.now) (map g.D.DeskLike.view c.args.seats.now) (map g.D.DeskLike.view c.loop-index.seats) (map g.D.DeskLike.view c.arrive_next.new.seats)
+    (frames_stopped (map g.D.DeskLike.spec c.args.access.now.desks.now) (map g.D.DeskLike.view c.args.seats.now) (map g.D.DeskLike.view c.loop-index.seats) (map g.D.DeskLike.view c.arrive_next.new.seats)
     c.loop-index.index c.args.part c.get-frame.result.now c.args.frames.now (take c.loop-index.index c.args.frames.now) c.in_err-arrive_next.field-0.0
     (take_few c.args.frames.now c.loop-index.index) c.loop-index.invariant.does c.get-frame.ensures c.in_err-arrive_next.ensures.ends)
 
 pub returns-in_err-arrive_next-clause-shares : goal.returns-in_err-arrive_next-clause-shares
 returns-in_err-arrive_next-clause-shares g c =
-    arrival_shares (map g.D.DeskLike.spec c.args.desks.now) (map g.D.DeskLike.view c.args.seats.now) (map g.D.DeskLike.view c.loop-index.seats) (map g.D.DeskLike.view c.arrive_next.new.seats)
+    arrival_shares (map g.D.DeskLike.spec c.args.access.now.desks.now) (map g.D.DeskLike.view c.args.seats.now) (map g.D.DeskLike.view c.loop-index.seats) (map g.D.DeskLike.view c.arrive_next.new.seats)
     c.loop-index.index c.args.part c.get-frame.result.now (Err c.in_err-arrive_next.field-0.0) c.in_err-arrive_next.ensures.ends c.loop-index.invariant.shares
 
 pub loop-index-preserved : goal.loop-index-preserved
@@ -35,16 +35,16 @@ loop-index-preserved g c = record {
   seats = c.in_ok-arrive_next.ensures.seats;
   does =
       rw (take_next c.args.frames.now c.loop-index.index c.get-frame.result.now c.get-frame.ensures)
-      (frames_more (map g.D.DeskLike.spec c.args.desks.now) (map g.D.DeskLike.view c.args.seats.now) (map g.D.DeskLike.view c.loop-index.seats) (map g.D.DeskLike.view c.arrive_next.new.seats)
+      (frames_more (map g.D.DeskLike.spec c.args.access.now.desks.now) (map g.D.DeskLike.view c.args.seats.now) (map g.D.DeskLike.view c.loop-index.seats) (map g.D.DeskLike.view c.arrive_next.new.seats)
       c.loop-index.index c.args.part c.get-frame.result.now c.in_ok-arrive_next.field-0 (take c.loop-index.index c.args.frames.now)
       c.loop-index.invariant.does c.in_ok-arrive_next.ensures.ends);
   shares =
-      arrival_shares (map g.D.DeskLike.spec c.args.desks.now) (map g.D.DeskLike.view c.args.seats.now) (map g.D.DeskLike.view c.loop-index.seats) (map g.D.DeskLike.view c.arrive_next.new.seats)
+      arrival_shares (map g.D.DeskLike.spec c.args.access.now.desks.now) (map g.D.DeskLike.view c.args.seats.now) (map g.D.DeskLike.view c.loop-index.seats) (map g.D.DeskLike.view c.arrive_next.new.seats)
       c.loop-index.index c.args.part c.get-frame.result.now (Ok c.in_ok-arrive_next.field-0) c.in_ok-arrive_next.ensures.ends c.loop-index.invariant.shares;
 }
 
 pub returns-clause-ends : goal.returns-clause-ends
 returns-clause-ends g c =
     let e = take_all c.loop-index.index c.args.frames.now (omega arith) in
-    frames_ended (map g.D.DeskLike.spec c.args.desks.now) (map g.D.DeskLike.view c.args.seats.now) (map g.D.DeskLike.view c.loop-index.seats) c.args.part c.args.frames.now c.new.result c.new.ensures
+    frames_ended (map g.D.DeskLike.spec c.args.access.now.desks.now) (map g.D.DeskLike.view c.args.seats.now) (map g.D.DeskLike.view c.loop-index.seats) c.args.part c.args.frames.now c.new.result c.new.ensures
     (rw e at c.loop-index.invariant.does)

@@ -18,13 +18,13 @@ loop-index-init g c = record {
 
 pub call_next-requires-clause-part : goal.call_next-requires-clause-part
 call_next-requires-clause-part g c κs within =
-    all_at (λ o. o.0 < length c.args.desks.now) c.args.ops.now c.requires.parts c.loop-index.index c.get.result.now c.get.ensures
+    all_at (λ o. o.0 < length c.args.access.now.desks.now) c.args.ops.now c.requires.parts c.loop-index.index c.get.result.now c.get.ensures
 
 pub returns-in_err-receipt-clause-ends : goal.returns-in_err-receipt-clause-ends
 returns-in_err-receipt-clause-ends g c =
     let q = err_from_is_err_and c.from_residual.result c.from_residual.ensures.1 in
     rw (q.1, q.2)
-    (ops_stopped (map g.D.DeskLike.spec c.args.desks.now) (map g.D.DeskLike.view c.args.seats.now) (map g.D.DeskLike.view c.loop-index.seats) (map g.D.DeskLike.view c.call_next.new.seats)
+    (ops_stopped (map g.D.DeskLike.spec c.args.access.now.desks.now) (map g.D.DeskLike.view c.args.seats.now) (map g.D.DeskLike.view c.loop-index.seats) (map g.D.DeskLike.view c.call_next.new.seats)
     c.args.thread c.loop-index.index c.get.result.now.0 c.get.result.now.1 c.args.ops.now c.loop-index.receipts c.in_err-receipt.field-0.0
     c.loop-index.invariant.does c.get.ensures c.in_err-receipt.ensures.ends)
 
@@ -32,18 +32,18 @@ pub returns-in_err-push-clause-ends : goal.returns-in_err-push-clause-ends
 returns-in_err-push-clause-ends g c =
     let q = err_from_is_err_and c.from_residual-in_err-push.result c.from_residual-in_err-push.ensures.1 in
     rw (q.1, q.2)
-    (ops_unkept (map g.D.DeskLike.spec c.args.desks.now) (map g.D.DeskLike.view c.args.seats.now) (map g.D.DeskLike.view c.loop-index.seats) (map g.D.DeskLike.view c.call_next.new.seats)
+    (ops_unkept (map g.D.DeskLike.spec c.args.access.now.desks.now) (map g.D.DeskLike.view c.args.seats.now) (map g.D.DeskLike.view c.loop-index.seats) (map g.D.DeskLike.view c.call_next.new.seats)
     c.args.thread c.loop-index.index c.get.result.now.0 c.get.result.now.1 c.in_ok-receipt.receipt c.args.ops.now c.loop-index.receipts
     c.loop-index.invariant.does c.get.ensures c.in_ok-receipt.ensures.ends)
 
 pub returns-in_err-receipt-clause-shares : goal.returns-in_err-receipt-clause-shares
 returns-in_err-receipt-clause-shares g c =
-    call_shares (map g.D.DeskLike.spec c.args.desks.now) (map g.D.DeskLike.view c.args.seats.now) (map g.D.DeskLike.view c.loop-index.seats) (map g.D.DeskLike.view c.call_next.new.seats)
+    call_shares (map g.D.DeskLike.spec c.args.access.now.desks.now) (map g.D.DeskLike.view c.args.seats.now) (map g.D.DeskLike.view c.loop-index.seats) (map g.D.DeskLike.view c.call_next.new.seats)
     c.args.thread c.loop-index.index c.get.result.now.0 c.get.result.now.1 (Err c.in_err-receipt.field-0.0) c.in_err-receipt.ensures.ends c.loop-index.invariant.shares
 
 pub returns-in_err-push-clause-shares : goal.returns-in_err-push-clause-shares
 returns-in_err-push-clause-shares g c =
-    call_shares (map g.D.DeskLike.spec c.args.desks.now) (map g.D.DeskLike.view c.args.seats.now) (map g.D.DeskLike.view c.loop-index.seats) (map g.D.DeskLike.view c.call_next.new.seats)
+    call_shares (map g.D.DeskLike.spec c.args.access.now.desks.now) (map g.D.DeskLike.view c.args.seats.now) (map g.D.DeskLike.view c.loop-index.seats) (map g.D.DeskLike.view c.call_next.new.seats)
     c.args.thread c.loop-index.index c.get.result.now.0 c.get.result.now.1 (Ok c.in_ok-receipt.receipt) c.in_ok-receipt.ensures.ends c.loop-index.invariant.shares
 
 pub loop-index-preserved : goal.loop-index-preserved
@@ -53,12 +53,12 @@ loop-index-preserved g c = record {
       let olds = map g.D.DeskLike.view c.args.seats.now in
       let news = map g.D.DeskLike.view c.call_next.new.seats in
       let ops = take c.loop-index.index c.args.ops.now in
-      let k = ops_more (map g.D.DeskLike.spec c.args.desks.now) olds (map g.D.DeskLike.view c.loop-index.seats) news
+      let k = ops_more (map g.D.DeskLike.spec c.args.access.now.desks.now) olds (map g.D.DeskLike.view c.loop-index.seats) news
       c.args.thread c.loop-index.index c.get.result.now.0 c.get.result.now.1 c.in_ok-receipt.receipt ops c.loop-index.receipts
       c.loop-index.invariant.does c.in_ok-receipt.ensures.ends in
       rw (c.in_ok-push.ensures.ok, take_next c.args.ops.now c.loop-index.index c.get.result.now c.get.ensures) k;
   shares =
-      call_shares (map g.D.DeskLike.spec c.args.desks.now) (map g.D.DeskLike.view c.args.seats.now) (map g.D.DeskLike.view c.loop-index.seats) (map g.D.DeskLike.view c.call_next.new.seats)
+      call_shares (map g.D.DeskLike.spec c.args.access.now.desks.now) (map g.D.DeskLike.view c.args.seats.now) (map g.D.DeskLike.view c.loop-index.seats) (map g.D.DeskLike.view c.call_next.new.seats)
       c.args.thread c.loop-index.index c.get.result.now.0 c.get.result.now.1 (Ok c.in_ok-receipt.receipt) c.in_ok-receipt.ensures.ends c.loop-index.invariant.shares;
   order =
       let k = until_more (map g.D.DeskLike.view c.loop-index.seats) (map g.D.DeskLike.view c.call_next.new.seats) c.loop-index.clock c.call_next.new.clock
@@ -70,7 +70,7 @@ loop-index-preserved g c = record {
 pub returns-clause-ends : goal.returns-clause-ends
 returns-clause-ends g c =
     let e = take_all c.loop-index.index c.args.ops.now (omega arith) in
-    ops_ended (map g.D.DeskLike.spec c.args.desks.now) (map g.D.DeskLike.view c.args.seats.now) (map g.D.DeskLike.view c.loop-index.seats) c.args.thread c.args.ops.now c.loop-index.receipts
+    ops_ended (map g.D.DeskLike.spec c.args.access.now.desks.now) (map g.D.DeskLike.view c.args.seats.now) (map g.D.DeskLike.view c.loop-index.seats) c.args.thread c.args.ops.now c.loop-index.receipts
     (rw e at c.loop-index.invariant.does)
 
 pub returns-clause-order : goal.returns-clause-order

@@ -10,5 +10,6 @@ returns-in_err-script-clause-written g c =
 
 pub returns-clause-written : goal.returns-clause-written
 returns-clause-written g c =
-    part_reported c.args.spec.now c.args.burst c.args.context _ _ _ _ (c.faults_at-faults.ensures ∙ c.in_ok-script.ensures c.args.burst)
+    part_reported c.args.spec.now c.args.traced.now.burst c.args.traced.now.context _ _ _ _
+    (c.faults_at-faults.ensures ∙ c.in_ok-script.ensures c.args.traced.now.burst)
     c.write_domain.ensures.written

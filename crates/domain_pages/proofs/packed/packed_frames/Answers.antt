@@ -1,6 +1,6 @@
 use Rattle.std.proofs.Common.{arith, ◌<◌, ◌∙◌, ◌++◌, ℕ, ap, length}
 use Rattle.std.specs.Global.{Vec}
-use Rattle.domain_pages.proofs.Packs.{packed_done, packed_more_free, packed_more_owned}
+use Rattle.domain_pages.proofs.Packs.{packed_more_free, packed_more_owned}
 use Rattle.domain_pages.proofs.packed.packed_frames.Goals as goal
 use Rattle.domain_pages.proofs.packed.packed_frames.Goals.{then-table-page+in_ok-extend_from_slice, else-table-page}
 

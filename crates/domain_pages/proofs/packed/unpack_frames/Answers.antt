@@ -1,5 +1,5 @@
-use Rattle.std.proofs.Common.{◌≡◌, ◌<◌, ℕ, Bool, List, length, arith, inl, subst, ap, ◌∙◌}
-use Rattle.domain_pages.proofs.Packs.{IsUnpackedTo, unpacks_free, unpacks_owned}
+use Rattle.std.proofs.Common.{◌<◌, length, arith, inl}
+use Rattle.domain_pages.proofs.Packs.{unpacks_free, unpacks_owned}
 use Rattle.domain_pages.proofs.packed.unpack_frames.Goals as goal
 use Rattle.domain_pages.proofs.packed.unpack_frames.Goals.{then-table-page, else-table-page}
 

@@ -14,11 +14,11 @@ returns-in-Some-end-clause-burst g c =
     (strikes_here c.loop-count.count _ _ _ _ _ _ _ c.loop-count-test.true c.loop-count.invariant.0
     c.strike_due-struck.ensures.struck c.in_default.is (c.strike_due-struck.ensures.clear c.in_default.is)
     c.strike_due-struck.ensures.entries)
-    ∙ run_ended _ _ _ _ _ _ _ _ c.run_until-run.ensures.went c.in-Some-end.is
+    ∙ run_ended _ _ _ _ _ _ _ _ (c.run_until-run.ensures.went _ c.next_stop-stop.ensures.quiet) c.in-Some-end.is
 
 pub loop-count-preserved : goal.loop-count-preserved
 loop-count-preserved g c = (
-  run_left _ _ _ _ _ _ _ c.run_until-run.ensures.went c.in_default-end.is
+  run_left _ _ _ _ _ _ _ (c.run_until-run.ensures.went _ c.next_stop-stop.ensures.quiet) c.in_default-end.is
       ∙ strikes_here c.loop-count.count _ _ _ _ _ _ _ c.loop-count-test.true c.loop-count.invariant.0
       c.strike_due-struck.ensures.struck c.in_default.is (c.strike_due-struck.ensures.clear c.in_default.is)
       c.strike_due-struck.ensures.entries,

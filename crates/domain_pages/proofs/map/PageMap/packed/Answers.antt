@@ -1,4 +1,4 @@
-use Rattle.std.proofs.Common.{◌≡◌, ◌∙◌, refl, arith}
+use Rattle.std.proofs.Common.{◌∙◌}
 use Rattle.domain_pages.proofs.Packs.{is_packed_as, packed_map}
 use Rattle.domain_pages.proofs.map.PageMap.packed.Goals as goal
 

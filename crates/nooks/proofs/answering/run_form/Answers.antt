@@ -2,7 +2,7 @@ use Rattle.std.proofs.Common.{Some, sym, true≢false}
 use Rattle.nooks.specs.Answers.{IsSummary}
 use Rattle.command_forms.specs.declared.words.Form.TheVariants as form
 use Rattle.nooks.proofs.Written.{unread_ends}
-use Rattle.nooks.proofs.program.run_form.Goals as goal
+use Rattle.nooks.proofs.answering.run_form.Goals as goal
 
 pub returns-in-Gen-clause-ends : goal.returns-in-Gen-clause-ends
 returns-in-Gen-clause-ends g c = rw (c.in-Gen.is) (unread_ends (Some (form.Gen c.in-Gen.number)) _ _ _ c.run_generated.result (IsSummary c.in-Gen.number)

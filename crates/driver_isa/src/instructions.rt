@@ -1,0 +1,421 @@
+//! The instruction table: the one file here that goes through all instructions, but for what they do (`turn`).
+
+ghost use Rattle.std.specs.Prelude.{◌≡◌, ℕ, Some, false, true};
+ghost use Rattle.driver_isa.specs.Decoding.{instr_of, op_instr};
+ghost use Rattle.machine_defs.specs.Mnemonics.{fields, fields_of, instr_with, instruction_row, mnemonic_numbered};
+
+use nook_data::machine::{Form, Instr, Mnemonic};
+use std::marker::Model;
+
+/// A row of the table: an instruction's name, number and form, and whether it sets register a.
+#[derive(Clone, Copy)]
+pub struct InstructionRow {
+    pub name: &'static str,
+    pub number: u8,
+    pub form: Form,
+    pub sets: bool,
+}
+
+/// All mnemonics, in the order of their numbers.
+pub const MNEMONICS: [Mnemonic; 24] = [
+    Mnemonic::Li,
+    Mnemonic::Lui,
+    Mnemonic::Mov,
+    Mnemonic::Add,
+    Mnemonic::Sub,
+    Mnemonic::And,
+    Mnemonic::Or,
+    Mnemonic::Xor,
+    Mnemonic::Shl,
+    Mnemonic::Shr,
+    Mnemonic::Addi,
+    Mnemonic::Ld,
+    Mnemonic::St,
+    Mnemonic::Jmp,
+    Mnemonic::Beq,
+    Mnemonic::Bne,
+    Mnemonic::Blt,
+    Mnemonic::Jal,
+    Mnemonic::Jr,
+    Mnemonic::In,
+    Mnemonic::Out,
+    Mnemonic::Kcall,
+    Mnemonic::Ret,
+    Mnemonic::Fault,
+];
+
+/// The row of a mnemonic.
+pub fn row_of(mnemonic: Mnemonic) -> InstructionRow
+    ensures name { result.name.now ≡ (instruction_row mnemonic).name }
+    ensures number { result.number ≡ (instruction_row mnemonic).number }
+    ensures form { result.form ≡ (instruction_row mnemonic).form }
+    ensures sets { result.sets ≡ (instruction_row mnemonic).sets }
+{
+    match mnemonic {
+        Mnemonic::Li => sets("LI", 0x01, Form::AImm),
+        Mnemonic::Lui => sets("LUI", 0x02, Form::AImm),
+        Mnemonic::Mov => sets("MOV", 0x03, Form::AB),
+        Mnemonic::Add => sets("ADD", 0x04, Form::AB),
+        Mnemonic::Sub => sets("SUB", 0x05, Form::AB),
+        Mnemonic::And => sets("AND", 0x06, Form::AB),
+        Mnemonic::Or => sets("OR", 0x07, Form::AB),
+        Mnemonic::Xor => sets("XOR", 0x08, Form::AB),
+        Mnemonic::Shl => sets("SHL", 0x09, Form::AB),
+        Mnemonic::Shr => sets("SHR", 0x0a, Form::AB),
+        Mnemonic::Addi => sets("ADDI", 0x0b, Form::ABImm),
+        Mnemonic::Ld => sets("LD", 0x0c, Form::ABImm),
+        Mnemonic::St => row("ST", 0x0d, Form::ABImm),
+        Mnemonic::Jmp => row("JMP", 0x0e, Form::Imm),
+        Mnemonic::Beq => row("BEQ", 0x0f, Form::ABImm),
+        Mnemonic::Bne => row("BNE", 0x10, Form::ABImm),
+        Mnemonic::Blt => row("BLT", 0x11, Form::ABImm),
+        Mnemonic::Jal => sets("JAL", 0x12, Form::AImm),
+        Mnemonic::Jr => row("JR", 0x13, Form::A),
+        Mnemonic::In => sets("IN", 0x14, Form::AImm),
+        Mnemonic::Out => row("OUT", 0x15, Form::AImm),
+        Mnemonic::Kcall => row("KCALL", 0x16, Form::Imm),
+        Mnemonic::Ret => row("RET", 0x17, Form::A),
+        Mnemonic::Fault => row("FAULT", 0x18, Form::Bare),
+    }
+}
+
+/// The row of an instruction that sets register a.
+fn sets(name: &'static str, number: u8, form: Form) -> InstructionRow
+    ensures name { result.name.now ≡ name.now }
+    ensures number { result.number ≡ number }
+    ensures form { result.form ≡ form }
+    ensures sets { result.sets ≡ true }
+{
+    InstructionRow {
+        name,
+        number,
+        form,
+        sets: true,
+    }
+}
+
+/// The row of an instruction that sets no register.
+fn row(name: &'static str, number: u8, form: Form) -> InstructionRow
+    ensures name { result.name.now ≡ name.now }
+    ensures number { result.number ≡ number }
+    ensures form { result.form ≡ form }
+    ensures sets { result.sets ≡ false }
+{
+    InstructionRow {
+        name,
+        number,
+        form,
+        sets: false,
+    }
+}
+
+/// The mnemonic with this number.
+pub fn mnemonic_numbered(number: u8) -> Option<Mnemonic>
+    ensures { result ≡ mnemonic_numbered number }
+{
+    match number {
+        0x01 => Some(Mnemonic::Li),
+        0x02 => Some(Mnemonic::Lui),
+        0x03 => Some(Mnemonic::Mov),
+        0x04 => Some(Mnemonic::Add),
+        0x05 => Some(Mnemonic::Sub),
+        0x06 => Some(Mnemonic::And),
+        0x07 => Some(Mnemonic::Or),
+        0x08 => Some(Mnemonic::Xor),
+        0x09 => Some(Mnemonic::Shl),
+        0x0a => Some(Mnemonic::Shr),
+        0x0b => Some(Mnemonic::Addi),
+        0x0c => Some(Mnemonic::Ld),
+        0x0d => Some(Mnemonic::St),
+        0x0e => Some(Mnemonic::Jmp),
+        0x0f => Some(Mnemonic::Beq),
+        0x10 => Some(Mnemonic::Bne),
+        0x11 => Some(Mnemonic::Blt),
+        0x12 => Some(Mnemonic::Jal),
+        0x13 => Some(Mnemonic::Jr),
+        0x14 => Some(Mnemonic::In),
+        0x15 => Some(Mnemonic::Out),
+        0x16 => Some(Mnemonic::Kcall),
+        0x17 => Some(Mnemonic::Ret),
+        0x18 => Some(Mnemonic::Fault),
+        _ => None,
+    }
+}
+
+/// The instruction of a mnemonic and its operands; operands that its form lacks are ignored.
+pub fn instr_with(mnemonic: Mnemonic, a: u8, b: u8, imm: u16) -> Instr
+    ensures { result ≡ instr_with mnemonic a b imm }
+{
+    match mnemonic {
+        Mnemonic::Li => Instr::Li { a, imm },
+        Mnemonic::Lui => Instr::Lui { a, imm },
+        Mnemonic::Mov => Instr::Mov { a, b },
+        Mnemonic::Add => Instr::Add { a, b },
+        Mnemonic::Sub => Instr::Sub { a, b },
+        Mnemonic::And => Instr::And { a, b },
+        Mnemonic::Or => Instr::Or { a, b },
+        Mnemonic::Xor => Instr::Xor { a, b },
+        Mnemonic::Shl => Instr::Shl { a, b },
+        Mnemonic::Shr => Instr::Shr { a, b },
+        Mnemonic::Addi => Instr::Addi { a, b, imm },
+        Mnemonic::Ld => Instr::Ld { a, b, imm },
+        Mnemonic::St => Instr::St { a, b, imm },
+        Mnemonic::Jmp => Instr::Jmp { imm },
+        Mnemonic::Beq => Instr::Beq { a, b, imm },
+        Mnemonic::Bne => Instr::Bne { a, b, imm },
+        Mnemonic::Blt => Instr::Blt { a, b, imm },
+        Mnemonic::Jal => Instr::Jal { a, imm },
+        Mnemonic::Jr => Instr::Jr { a },
+        Mnemonic::In => Instr::In { a, imm },
+        Mnemonic::Out => Instr::Out { a, imm },
+        Mnemonic::Kcall => Instr::Kcall { imm },
+        Mnemonic::Ret => Instr::Ret { a },
+        Mnemonic::Fault => Instr::Fault,
+    }
+}
+
+/// An instruction as a mnemonic and operands; those that its form lacks are 0.
+#[derive(Drop)]
+pub struct Fields {
+    pub mnemonic: Mnemonic,
+    pub a: u8,
+    pub b: u8,
+    pub imm: u16,
+}
+
+impl Model for Fields {
+    ghost use Rattle.machine_defs.specs.Mnemonics as specs;
+
+    ghost Value = { specs.Fields };
+
+    ghost view = { λ s. record { mnemonic = s.mnemonic; a = s.a; b = s.b; imm = s.imm } };
+}
+
+/// A mnemonic with these operands.
+fn fields_with(mnemonic: Mnemonic, a: u8, b: u8, imm: u16) -> Fields
+    ensures { result ≡ fields mnemonic a b imm }
+{
+    Fields {
+        mnemonic,
+        a,
+        b,
+        imm,
+    }
+}
+
+/// The mnemonic and operands of an instruction.
+pub fn fields_of(instr: Instr) -> Fields
+    ensures { result ≡ fields_of instr }
+{
+    match instr {
+        Instr::Li { a, imm } => fields_with(Mnemonic::Li, a, 0, imm),
+        Instr::Lui { a, imm } => fields_with(Mnemonic::Lui, a, 0, imm),
+        Instr::Mov { a, b } => fields_with(Mnemonic::Mov, a, b, 0),
+        Instr::Add { a, b } => fields_with(Mnemonic::Add, a, b, 0),
+        Instr::Sub { a, b } => fields_with(Mnemonic::Sub, a, b, 0),
+        Instr::And { a, b } => fields_with(Mnemonic::And, a, b, 0),
+        Instr::Or { a, b } => fields_with(Mnemonic::Or, a, b, 0),
+        Instr::Xor { a, b } => fields_with(Mnemonic::Xor, a, b, 0),
+        Instr::Shl { a, b } => fields_with(Mnemonic::Shl, a, b, 0),
+        Instr::Shr { a, b } => fields_with(Mnemonic::Shr, a, b, 0),
+        Instr::Addi { a, b, imm } => fields_with(Mnemonic::Addi, a, b, imm),
+        Instr::Ld { a, b, imm } => fields_with(Mnemonic::Ld, a, b, imm),
+        Instr::St { a, b, imm } => fields_with(Mnemonic::St, a, b, imm),
+        Instr::Jmp { imm } => fields_with(Mnemonic::Jmp, 0, 0, imm),
+        Instr::Beq { a, b, imm } => fields_with(Mnemonic::Beq, a, b, imm),
+        Instr::Bne { a, b, imm } => fields_with(Mnemonic::Bne, a, b, imm),
+        Instr::Blt { a, b, imm } => fields_with(Mnemonic::Blt, a, b, imm),
+        Instr::Jal { a, imm } => fields_with(Mnemonic::Jal, a, 0, imm),
+        Instr::Jr { a } => fields_with(Mnemonic::Jr, a, 0, 0),
+        Instr::In { a, imm } => fields_with(Mnemonic::In, a, 0, imm),
+        Instr::Out { a, imm } => fields_with(Mnemonic::Out, a, 0, imm),
+        Instr::Kcall { imm } => fields_with(Mnemonic::Kcall, 0, 0, imm),
+        Instr::Ret { a } => fields_with(Mnemonic::Ret, a, 0, 0),
+        Instr::Fault => fields_with(Mnemonic::Fault, 0, 0, 0),
+    }
+}
+
+/// The op of a word, or that the word is no instruction.
+#[derive(Clone, Copy)]
+pub enum Op {
+    None,
+    Li,
+    Lui,
+    Mov,
+    Add,
+    Sub,
+    And,
+    Or,
+    Xor,
+    Shl,
+    Shr,
+    Addi,
+    Ld,
+    St,
+    Jmp,
+    Beq,
+    Bne,
+    Blt,
+    Jal,
+    Jr,
+    In,
+    Out,
+    Kcall,
+    Ret,
+    Fault,
+}
+
+/// The op of a mnemonic.
+pub fn op_of(mnemonic: Mnemonic) -> Op
+    ensures { (a b imm : ℕ) → op_instr result a b imm ≡ Some (instr_with mnemonic a b imm) }
+{
+    match mnemonic {
+        Mnemonic::Li => Op::Li,
+        Mnemonic::Lui => Op::Lui,
+        Mnemonic::Mov => Op::Mov,
+        Mnemonic::Add => Op::Add,
+        Mnemonic::Sub => Op::Sub,
+        Mnemonic::And => Op::And,
+        Mnemonic::Or => Op::Or,
+        Mnemonic::Xor => Op::Xor,
+        Mnemonic::Shl => Op::Shl,
+        Mnemonic::Shr => Op::Shr,
+        Mnemonic::Addi => Op::Addi,
+        Mnemonic::Ld => Op::Ld,
+        Mnemonic::St => Op::St,
+        Mnemonic::Jmp => Op::Jmp,
+        Mnemonic::Beq => Op::Beq,
+        Mnemonic::Bne => Op::Bne,
+        Mnemonic::Blt => Op::Blt,
+        Mnemonic::Jal => Op::Jal,
+        Mnemonic::Jr => Op::Jr,
+        Mnemonic::In => Op::In,
+        Mnemonic::Out => Op::Out,
+        Mnemonic::Kcall => Op::Kcall,
+        Mnemonic::Ret => Op::Ret,
+        Mnemonic::Fault => Op::Fault,
+    }
+}
+
+/// A word's op and fields.
+// In an `Option<Instr>` the same bytes are other fields in other variants, so every field would be read for every
+// instruction. Here each is read where it is used. It has eight bytes, so that its address in a list is one step.
+#[derive(Clone, Copy)]
+pub struct Decoded {
+    op: Op,
+    a: u8,
+    b: u8,
+    imm: u16,
+    unused: u16,
+}
+
+/// An op with these fields.
+pub fn decoded_with(op: Op, a: u8, b: u8, imm: u16) -> Decoded
+    ensures { instr_of result ≡ op_instr op a b imm }
+{
+    Decoded {
+        op,
+        a,
+        b,
+        imm,
+        unused: 0,
+    }
+}
+
+/// The instruction, if it is one.
+// When this is inlined, the matches on the op and on the instruction become one.
+#[inline(always)]
+pub fn instr_of(decoded: &Decoded) -> Option<Instr>
+    ensures { result ≡ instr_of decoded.now }
+{
+    match decoded.op {
+        Op::None => None,
+        Op::Li => Some(Instr::Li {
+            a: decoded.a,
+            imm: decoded.imm,
+        }),
+        Op::Lui => Some(Instr::Lui {
+            a: decoded.a,
+            imm: decoded.imm,
+        }),
+        Op::Mov => Some(Instr::Mov {
+            a: decoded.a,
+            b: decoded.b,
+        }),
+        Op::Add => Some(Instr::Add {
+            a: decoded.a,
+            b: decoded.b,
+        }),
+        Op::Sub => Some(Instr::Sub {
+            a: decoded.a,
+            b: decoded.b,
+        }),
+        Op::And => Some(Instr::And {
+            a: decoded.a,
+            b: decoded.b,
+        }),
+        Op::Or => Some(Instr::Or {
+            a: decoded.a,
+            b: decoded.b,
+        }),
+        Op::Xor => Some(Instr::Xor {
+            a: decoded.a,
+            b: decoded.b,
+        }),
+        Op::Shl => Some(Instr::Shl {
+            a: decoded.a,
+            b: decoded.b,
+        }),
+        Op::Shr => Some(Instr::Shr {
+            a: decoded.a,
+            b: decoded.b,
+        }),
+        Op::Addi => Some(Instr::Addi {
+            a: decoded.a,
+            b: decoded.b,
+            imm: decoded.imm,
+        }),
+        Op::Ld => Some(Instr::Ld {
+            a: decoded.a,
+            b: decoded.b,
+            imm: decoded.imm,
+        }),
+        Op::St => Some(Instr::St {
+            a: decoded.a,
+            b: decoded.b,
+            imm: decoded.imm,
+        }),
+        Op::Jmp => Some(Instr::Jmp { imm: decoded.imm }),
+        Op::Beq => Some(Instr::Beq {
+            a: decoded.a,
+            b: decoded.b,
+            imm: decoded.imm,
+        }),
+        Op::Bne => Some(Instr::Bne {
+            a: decoded.a,
+            b: decoded.b,
+            imm: decoded.imm,
+        }),
+        Op::Blt => Some(Instr::Blt {
+            a: decoded.a,
+            b: decoded.b,
+            imm: decoded.imm,
+        }),
+        Op::Jal => Some(Instr::Jal {
+            a: decoded.a,
+            imm: decoded.imm,
+        }),
+        Op::Jr => Some(Instr::Jr { a: decoded.a }),
+        Op::In => Some(Instr::In {
+            a: decoded.a,
+            imm: decoded.imm,
+        }),
+        Op::Out => Some(Instr::Out {
+            a: decoded.a,
+            imm: decoded.imm,
+        }),
+        Op::Kcall => Some(Instr::Kcall { imm: decoded.imm }),
+        Op::Ret => Some(Instr::Ret { a: decoded.a }),
+        Op::Fault => Some(Instr::Fault),
+    }
+}

@@ -4,7 +4,7 @@
 
 use crate::class::Class;
 use crate::image::Image;
-use crate::instructions::{encode, Form, TABLE};
+use crate::instructions::{Form, Row};
 use crate::memory::{DATA_START, DATA_WORDS, TEXT_WORDS};
 use crate::refusal::{TextFault, TextFaultKind};
 use crate::tokens::{lines, tokens, Token};
@@ -163,13 +163,12 @@ fn instruction<'t>(
     operands: &[Token<'t>],
     in_data: bool,
 ) -> Result<Statement<'t>, TextFaultKind> {
-    let row = TABLE.iter().find(|row| row.0 == name);
-    let (_, code, form) = row.ok_or(UnknownName)?;
+    let row = Row::named(name).ok_or(UnknownName)?;
     if in_data {
         return Err(WrongOperands);
     }
     let none = Operand::Number(0);
-    let (a, b, value) = match (form, operands) {
+    let (a, b, value) = match (row.form, operands) {
         (Form::None, []) => (0, 0, none),
         (Form::A, [a]) => (register_of(a)?, 0, none),
         (Form::Immediate, [value]) => (0, 0, operand(value)?),
@@ -178,7 +177,7 @@ fn instruction<'t>(
         (Form::ABImmediate, [a, b, value]) => (register_of(a)?, register_of(b)?, operand(value)?),
         _ => return Err(WrongOperands),
     };
-    Ok(Statement::Instruction(encode(*code, a, b, 0), value))
+    Ok(Statement::Instruction(row.encode(a, b, 0), value))
 }
 
 fn directive<'t>(

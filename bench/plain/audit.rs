@@ -4,7 +4,6 @@
 //! one that its step makes, and the lines after the events with those that follow from the journals.
 
 use crate::contract::{judge, Verdict};
-use crate::form::decimal;
 use crate::input;
 use crate::journal::{Answer, Words};
 use crate::one_order::{self, Mark};
@@ -14,6 +13,7 @@ use crate::refusal::{Cause, Read, Refusal};
 use crate::report::{write_ends, write_head, write_last, write_threads};
 use crate::scenario::{Scenario, ThreadSpec};
 use crate::simulation::{Heard, Run};
+use crate::subcommand::decimal;
 use std::collections::VecDeque;
 use std::fmt::Write as _;
 use std::slice::Iter;

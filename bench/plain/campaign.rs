@@ -1,10 +1,11 @@
 //! Campaigns: one scenario, run once for each of many sets of faults.
 
+use crate::fault::{self, Fault, FaultKind};
 use crate::fields::{each, some_items, truth, Object};
 use crate::guard;
 use crate::json::Value;
 use crate::refusal::{Cause, Read, Refusal, Within};
-use crate::scenario::{self, read_fault, read_fault_kind, Fault, FaultKind, Scenario, MOST_FAULTS};
+use crate::scenario::{self, Scenario, MOST_FAULTS};
 
 const MOST_MEMBERS: usize = 4_096;
 const MOST_FAULTS_OF_MEMBER: usize = 16;
@@ -75,16 +76,16 @@ fn read_choice(key: &str, value: &Value) -> Read<Choice> {
         "members" => Choice::Members(each(some_items(value, MOST_MEMBERS)?, read_member)?),
         "every" => Choice::Every(each(
             some_items(value, MOST_FAULTS_OF_EVERY)?,
-            read_fault_kind,
+            fault::read_kind,
         )?),
-        _ => Choice::Members(each(some_items(value, MOST_MEMBERS)?, |fault| {
-            Ok(vec![read_fault(fault)?])
+        _ => Choice::Members(each(some_items(value, MOST_MEMBERS)?, |one| {
+            Ok(vec![fault::read(one)?])
         })?),
     })
 }
 
 fn read_member(value: &Value) -> Read<Vec<Fault>> {
-    each(some_items(value, MOST_FAULTS_OF_MEMBER)?, read_fault)
+    each(some_items(value, MOST_FAULTS_OF_MEMBER)?, fault::read)
 }
 
 impl Campaign<'_> {

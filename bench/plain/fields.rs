@@ -8,7 +8,7 @@ use std::ops::RangeInclusive;
 /// The range of a machine word.
 pub const WORD: RangeInclusive<u64> = 0..=u32::MAX as u64;
 
-/// The kinds of an object: the name of each, and the keys that it has.
+/// The kinds of an object: the name of each, and the keys that only some kinds have.
 pub type Rows = &'static [(&'static str, &'static [&'static str])];
 
 /// The fields of an object. If a key comes twice, the last one counts.
@@ -28,12 +28,14 @@ impl<'v> Object<'v> {
     /// An object that has no keys but these.
     pub fn with_keys(value: &'v Value, keys: &[&str]) -> Read<Object<'v>> {
         let object = Object::any(value)?;
-        object.expect_keys(keys)?;
+        object.expect_keys(&[keys])?;
         Ok(object)
     }
 
-    pub fn expect_keys(&self, keys: &[&str]) -> Read<()> {
-        let is_known = |(key, _): &(Cow<str>, _)| keys.contains(&key.as_ref());
+    /// Refuses a key that none of some lists has.
+    pub fn expect_keys(&self, lists: &[&[&str]]) -> Read<()> {
+        let is_known =
+            |(key, _): &(Cow<str>, _)| lists.iter().any(|keys| keys.contains(&key.as_ref()));
         if self.fields.iter().all(is_known) {
             Ok(())
         } else {
@@ -41,16 +43,16 @@ impl<'v> Object<'v> {
         }
     }
 
-    /// The name at a key, which decides which keys the object has. Each row has a name and its keys.
-    pub fn kind(&self, key: &str, rows: Rows) -> Read<&'static str> {
-        let (name, keys) = self.required(key, |value| {
+    /// The name at a key, which decides which keys the object has in addition to it and those of every kind.
+    pub fn kind(&self, key: &str, of_every: &[&str], rows: Rows) -> Read<&'static str> {
+        let (name, own) = self.required(key, |value| {
             let name = text(value)?;
             match rows.iter().find(|row| row.0 == name) {
                 Some(row) => Ok(row),
                 None => Refusal::here(Cause::WrongKind),
             }
         })?;
-        self.expect_keys(keys)?;
+        self.expect_keys(&[&[key], of_every, own])?;
         Ok(name)
     }
 

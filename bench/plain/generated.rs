@@ -2,9 +2,10 @@
 
 use crate::assembler::assemble;
 use crate::class::Class;
+use crate::fault::{Fault, FaultKind};
 use crate::image::Image;
 use crate::operation::{Operation, BLOCK_WORDS};
-use crate::scenario::{Fault, FaultKind, Order, PartSpec, Scenario, ThreadSpec};
+use crate::scenario::{Order, PartSpec, Scenario, ThreadSpec};
 
 const THREADS: u32 = 4;
 const DISK_BLOCKS: u32 = 64;

@@ -5,9 +5,10 @@
 //! that burst stays as it was.
 
 use crate::contract::{Breach, Deed};
+use crate::fault::{Fault, FaultKind};
 use crate::journal::{Burst, Event};
 use crate::refusal::{Cause, Read, Refusal, Within};
-use crate::scenario::{Fault, FaultKind, Scenario, MOST_FAULTS};
+use crate::scenario::{Scenario, MOST_FAULTS};
 use crate::schedule::Schedule;
 use crate::simulation::{Run, Simulation};
 use std::fmt::{self, Display, Formatter};

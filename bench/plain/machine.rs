@@ -1,21 +1,22 @@
 //! The driver machine.
 
-use crate::device::{Device, NoSuchPort};
-use crate::instructions::*;
+use crate::device::Device;
+use crate::fault::{Fault, Strike};
+use crate::instructions::{execute, Next};
 use crate::journal::{MadeAct, Trap};
 use crate::memory::Memory;
-use crate::scenario::{Fault, FaultKind};
-use std::hint::black_box;
 use std::ops::Range;
 
 /// The turns and the acts of a burst.
 pub const MOST_INSTRUCTIONS: u32 = 4_096;
 const MOST_ACTS: usize = 64;
 
+pub type Registers = [u32; 16];
+
 #[derive(Clone, PartialEq, Eq, Hash)]
 pub struct Cpu {
     pub counter: u32,
-    pub registers: [u32; 16],
+    pub registers: Registers,
 }
 
 /// What a driver can reach.
@@ -48,40 +49,13 @@ pub fn run_burst(cpu: &mut Cpu, bus: &mut Bus, faults: &[Fault]) -> (u32, Crossi
         if let Some(crossing) = crossing {
             return (done, crossing);
         }
-        match strike(fault.kind, cpu, bus.memory) {
+        match fault.kind.strike(cpu, bus.memory) {
             Strike::Ended(trap) => return (done, trap.into()),
             Strike::Done | Strike::Refused => {}
         }
     }
     let (done, crossing) = cpu.run(done..MOST_INSTRUCTIONS, bus);
     (done, crossing.unwrap_or(Trap::Hang.into()))
-}
-
-/// What became of a fault that struck.
-pub enum Strike {
-    Done,
-    /// Nothing was changed.
-    Refused,
-    /// The burst ends here.
-    Ended(Trap),
-}
-
-pub fn strike(kind: FaultKind, cpu: &mut Cpu, memory: &mut Memory) -> Strike {
-    let is_done = match kind {
-        FaultKind::Trap => return Strike::Ended(Trap::Injected),
-        FaultKind::Hang => return Strike::Ended(Trap::Hang),
-        FaultKind::Poke { address, value } => memory.write(address, value),
-        FaultKind::Code { address, value } => memory.patch(address, value),
-        FaultKind::Register { register, value } => {
-            cpu.registers[register] = value;
-            true
-        }
-    };
-    if is_done {
-        Strike::Done
-    } else {
-        Strike::Refused
-    }
 }
 
 impl Cpu {
@@ -93,12 +67,12 @@ impl Cpu {
 
     /// Does these turns of a burst, counted from 0, up to a crossing. How many the burst has then, and the crossing.
     pub fn run(&mut self, turns: Range<u32>, bus: &mut Bus) -> (u32, Option<Crossing>) {
-        let Bus {
-            memory,
-            device,
-            acts,
-        } = bus;
-        let r = &mut self.registers;
+        // The loop is faster with its own references.
+        let bus = &mut Bus {
+            memory: bus.memory,
+            device: bus.device,
+            acts: bus.acts,
+        };
         let mut at = self.counter;
         let mut left = turns.end - turns.start;
         let (next, crossing) = loop {
@@ -106,87 +80,23 @@ impl Cpu {
                 break (at, None);
             }
             left -= 1;
-            let Some(word) = memory.fetch(at) else {
+            let Some(word) = bus.memory.fetch(at) else {
                 break (at, Some(Trap::BadFetch.into()));
             };
-            let a = (word >> 20 & 15) as usize;
-            let b = (word >> 16 & 15) as usize;
-            let immediate = word & 0xffff;
-            match word >> 24 {
-                LI if b == 0 => r[a] = immediate,
-                LUI if b == 0 => r[a] = immediate << 16 | r[a] & 0xffff,
-                MOV if immediate == 0 => r[a] = r[b],
-                ADD if immediate == 0 => r[a] = r[a].wrapping_add(r[b]),
-                SUB if immediate == 0 => r[a] = r[a].wrapping_sub(r[b]),
-                AND if immediate == 0 => r[a] &= r[b],
-                OR if immediate == 0 => r[a] |= r[b],
-                XOR if immediate == 0 => r[a] ^= r[b],
-                SHL if immediate == 0 => r[a] = r[a].wrapping_shl(r[b]),
-                SHR if immediate == 0 => r[a] = r[a].wrapping_shr(r[b]),
-                ADDI => r[a] = r[b].wrapping_add(immediate),
-                LD => {
-                    let address = r[b].wrapping_add(immediate);
-                    match memory.read(address) {
-                        Some(word) => r[a] = word,
-                        None => break (at, Some(Trap::BadRead(address).into())),
+            match execute(word, at, &mut self.registers, bus) {
+                Ok(Next::Following) => at += 1,
+                Ok(Next::Goto(target)) => at = target,
+                Ok(Next::Act(act)) => {
+                    let turn = turns.end - left;
+                    bus.acts.push(MadeAct { turn, act });
+                    at += 1;
+                    if bus.acts.len() == MOST_ACTS {
+                        break (at, Some(Crossing::Pause));
                     }
                 }
-                ST => {
-                    let address = r[b].wrapping_add(immediate);
-                    if !memory.write(address, r[a]) {
-                        break (at, Some(Trap::ForeignWrite(address).into()));
-                    }
-                }
-                JMP if a == 0 && b == 0 => {
-                    at = immediate;
-                    continue;
-                }
-                BEQ if r[a] == r[b] => {
-                    at = immediate;
-                    continue;
-                }
-                BNE if r[a] != r[b] => {
-                    at = immediate;
-                    continue;
-                }
-                BLT if r[a] < r[b] => {
-                    at = immediate;
-                    continue;
-                }
-                // Without this the compiler has a conditional move give the counter, and the next fetch waits for it.
-                BEQ | BNE | BLT => black_box(()),
-                JAL if b == 0 => {
-                    r[a] = at + 1;
-                    at = immediate;
-                    continue;
-                }
-                JR if b == 0 && immediate == 0 => {
-                    at = r[a];
-                    continue;
-                }
-                IN if b == 0 => match device.input(immediate) {
-                    Some(word) => r[a] = word,
-                    None => break (at, Some(Trap::BadPort(immediate).into())),
-                },
-                OUT if b == 0 => match device.output(immediate, r[a]) {
-                    Ok(None) => {}
-                    Ok(Some(act)) => {
-                        let turn = turns.end - left;
-                        acts.push(MadeAct { turn, act });
-                        if acts.len() == MOST_ACTS {
-                            break (at + 1, Some(Crossing::Pause));
-                        }
-                    }
-                    Err(NoSuchPort) => break (at, Some(Trap::BadPort(immediate).into())),
-                },
-                KCALL if a == 0 && b == 0 => break (at + 1, Some(Crossing::KernelCall(immediate))),
-                RET if b == 0 && immediate == 0 => break (at + 1, Some(Crossing::Reply(r[a]))),
-                FAULT if a == 0 && b == 0 && immediate == 0 => {
-                    break (at, Some(Trap::Explicit.into()))
-                }
-                _ => break (at, Some(Trap::BadOpcode.into())),
+                Ok(Next::Crossing(crossing)) => break (at + 1, Some(crossing)),
+                Err(trap) => break (at, Some(trap.into())),
             }
-            at += 1;
         };
         self.counter = next;
         (turns.end - left, crossing)

@@ -17,8 +17,8 @@ mod class;
 mod contract;
 mod device;
 mod explore;
+mod fault;
 mod fields;
-mod form;
 mod generated;
 mod guard;
 mod image;
@@ -41,10 +41,10 @@ mod report;
 mod scenario;
 mod scenario_text;
 mod schedule;
-mod serve;
 mod side_by_side;
 mod simulation;
 mod state;
+mod subcommand;
 mod summary;
 mod table;
 mod texts;
@@ -54,7 +54,6 @@ mod trace;
 mod tracker;
 
 use allocator::{Allocator, NO_MEMORY_STATUS};
-use form::Form;
 use refusal::Refusal;
 use std::env;
 use std::ffi::OsString;
@@ -102,8 +101,8 @@ fn main() -> ExitCode {
 fn answer(words: &[&str]) -> Result<u8, Stop> {
     // The library's own standard output ignores a write to one that cannot be written.
     let mut out = BufWriter::new(File::from(io::stdout().as_fd().try_clone_to_owned()?));
-    let status = match Form::of(words) {
-        Some(form) => match serve::serve(form, &mut out) {
+    let status = match subcommand::find(words) {
+        Some((serve, numbers)) => match serve(&numbers, &mut out) {
             Err(Stop::Refused(refusal)) => refuse(&refusal, &mut out)?,
             status => status?,
         },

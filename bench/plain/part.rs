@@ -2,11 +2,12 @@
 
 use crate::class::{Class, Entry};
 use crate::device::Device;
+use crate::fault::Fault;
 use crate::journal::{Answer, Burst, End, Event, Failure, Released, Served, Stage, Words};
 use crate::machine::{run_burst, Bus, Cpu, Crossing};
 use crate::memory::{Changes, Memory, CONTEXTS, DATA_START, OBJECTS, OBJECT_WORDS};
 use crate::operation::{Operation, BLOCK_WORDS};
-use crate::scenario::{Fault, PartSpec};
+use crate::scenario::PartSpec;
 use crate::tracker::Tracker;
 use std::collections::VecDeque;
 

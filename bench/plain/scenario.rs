@@ -2,6 +2,7 @@
 
 use crate::assembler::assemble;
 use crate::class::Class;
+use crate::fault::{self, Fault};
 use crate::fields::{each, items, number, some_items, text, word, Object, Rows};
 use crate::image::{self, read_class, Image};
 use crate::journal::Words;
@@ -46,23 +47,6 @@ pub struct PartSpec {
 pub struct BadBlock {
     pub block: u32,
     pub after: u32,
-}
-
-/// What strikes a burst after this many turns.
-#[derive(Clone, Copy)]
-pub struct Fault {
-    pub burst: u32,
-    pub after: u32,
-    pub kind: FaultKind,
-}
-
-#[derive(Clone, Copy)]
-pub enum FaultKind {
-    Trap,
-    Hang,
-    Poke { address: u32, value: u32 },
-    Code { address: u32, value: u32 },
-    Register { register: usize, value: u32 },
 }
 
 pub struct ThreadSpec {
@@ -140,14 +124,14 @@ fn read_name<'n>(value: &Value, mut earlier: impl Iterator<Item = &'n str>) -> R
 }
 
 const ORDERS: Rows = &[
-    ("round_robin", &["kind"]),
-    ("drawn", &["kind", "start"]),
-    ("listed", &["kind", "picks"]),
+    ("round_robin", &[]),
+    ("drawn", &["start"]),
+    ("listed", &["picks"]),
 ];
 
 fn read_order(value: &Value) -> Read<Order> {
     let fields = Object::any(value)?;
-    Ok(match fields.kind("kind", ORDERS)? {
+    Ok(match fields.kind("kind", &[], ORDERS)? {
         "drawn" => Order::Drawn {
             start: fields.number("start", 0..=u64::MAX)?,
         },
@@ -175,7 +159,7 @@ fn read_part<'n>(
         Class::Net => &["arrivals"],
         Class::Sound => &[],
     };
-    fields.expect_keys(&[&["name", "class", "limit", "driver", "faults"], own].concat())?;
+    fields.expect_keys(&[&["name", "class", "limit", "driver", "faults"], own])?;
     let name = fields.required("name", |value| read_name(value, earlier))?;
     let blocks = match class {
         Class::Block => fields.number("blocks", 1..=256)?,
@@ -187,7 +171,7 @@ fn read_part<'n>(
     let limit = fields.optional("limit", |value| number(value, 0..=16))?;
     let image = fields.required("driver", |value| read_driver(value, class))?;
     let faults = fields.optional("faults", |value| {
-        each(items(value, MOST_FAULTS)?, read_fault)
+        each(items(value, MOST_FAULTS)?, fault::read)
     })?;
     let arrivals = fields.optional("arrivals", |value| each(items(value, 256)?, read_frame))?;
     Ok(PartSpec {
@@ -235,58 +219,6 @@ fn read_assembler(text: &[u8]) -> Read<Image> {
     }
 }
 
-const FAULTS: Rows = &[
-    ("trap", &["burst", "after", "kind"]),
-    ("hang", &["burst", "after", "kind"]),
-    ("poke", &["burst", "after", "kind", "address", "value"]),
-    ("code", &["burst", "after", "kind", "address", "value"]),
-    ("reg", &["burst", "after", "kind", "register", "value"]),
-];
-
-pub fn read_fault(value: &Value) -> Read<Fault> {
-    let fields = Object::any(value)?;
-    let name = fields.kind("kind", FAULTS)?;
-    Ok(Fault {
-        burst: fields.number("burst", 1..=u64::from(u32::MAX))? as u32,
-        after: fields.number("after", 0..=4_095)? as u32,
-        kind: read_struck(name, &fields)?,
-    })
-}
-
-const FAULT_KINDS: Rows = &[
-    ("trap", &["kind"]),
-    ("hang", &["kind"]),
-    ("poke", &["kind", "address", "value"]),
-    ("code", &["kind", "address", "value"]),
-    ("reg", &["kind", "register", "value"]),
-];
-
-/// Reads a fault without the burst and the instruction at which it strikes.
-pub fn read_fault_kind(value: &Value) -> Read<FaultKind> {
-    let fields = Object::any(value)?;
-    let name = fields.kind("kind", FAULT_KINDS)?;
-    read_struck(name, &fields)
-}
-
-fn read_struck(name: &str, fields: &Object) -> Read<FaultKind> {
-    Ok(match name {
-        "trap" => FaultKind::Trap,
-        "hang" => FaultKind::Hang,
-        "poke" => FaultKind::Poke {
-            address: fields.word("address")?,
-            value: fields.word("value")?,
-        },
-        "code" => FaultKind::Code {
-            address: fields.word("address")?,
-            value: fields.word("value")?,
-        },
-        _ => FaultKind::Register {
-            register: fields.number("register", 0..=15)? as usize,
-            value: fields.word("value")?,
-        },
-    })
-}
-
 fn read_thread<'n>(
     value: &Value,
     parts: usize,
@@ -304,20 +236,20 @@ fn read_thread<'n>(
 }
 
 const OPERATIONS: Rows = &[
-    ("read", &["part", "op", "first", "count"]),
-    ("write", &["part", "op", "first", "data"]),
-    ("send", &["part", "op", "frame"]),
-    ("recv", &["part", "op"]),
-    ("open", &["part", "op"]),
-    ("play", &["part", "op", "samples"]),
-    ("close", &["part", "op"]),
-    ("get", &["part", "op", "key"]),
-    ("set", &["part", "op", "key", "value"]),
+    ("read", &["first", "count"]),
+    ("write", &["first", "data"]),
+    ("send", &["frame"]),
+    ("recv", &[]),
+    ("open", &[]),
+    ("play", &["samples"]),
+    ("close", &[]),
+    ("get", &["key"]),
+    ("set", &["key", "value"]),
 ];
 
 fn read_operation(value: &Value, parts: usize) -> Read<(usize, Operation)> {
     let fields = Object::any(value)?;
-    let name = fields.kind("op", OPERATIONS)?;
+    let name = fields.kind("op", &["part"], OPERATIONS)?;
     let part = fields.number("part", 0..=parts as u64 - 1)?;
     Ok((part as usize, read_asked(name, &fields)?))
 }

@@ -3,7 +3,7 @@
 use crate::class::Class;
 use crate::lines::List;
 use crate::operation::Operation;
-use crate::scenario::{BadBlock, Fault, FaultKind, Order, PartSpec, Scenario, ThreadSpec};
+use crate::scenario::{BadBlock, Order, PartSpec, Scenario, ThreadSpec};
 use std::fmt::{self, Display, Formatter};
 use std::io::{self, Write};
 
@@ -21,7 +21,7 @@ pub fn write(scenario: &Scenario, out: &mut impl Write) -> io::Result<()> {
 }
 
 /// A value as JSON.
-struct Json<T>(T);
+pub struct Json<T>(pub T);
 
 impl<'v, T> Display for Json<&'v [T]>
 where
@@ -84,26 +84,6 @@ impl Display for Json<&BadBlock> {
     fn fmt(&self, f: &mut Formatter) -> fmt::Result {
         let BadBlock { block, after } = self.0;
         write!(f, r#"{{"block":{block},"after":{after}}}"#)
-    }
-}
-
-impl Display for Json<&Fault> {
-    fn fmt(&self, f: &mut Formatter) -> fmt::Result {
-        let Fault { burst, after, kind } = self.0;
-        write!(f, r#"{{"burst":{burst},"after":{after},"kind":"#)?;
-        match kind {
-            FaultKind::Trap => f.write_str(r#""trap"}"#),
-            FaultKind::Hang => f.write_str(r#""hang"}"#),
-            FaultKind::Poke { address, value } => {
-                write!(f, r#""poke","address":{address},"value":{value}}}"#)
-            }
-            FaultKind::Code { address, value } => {
-                write!(f, r#""code","address":{address},"value":{value}}}"#)
-            }
-            FaultKind::Register { register, value } => {
-                write!(f, r#""reg","register":{register},"value":{value}}}"#)
-            }
-        }
     }
 }
 

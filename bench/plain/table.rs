@@ -1,10 +1,11 @@
 //! The table of a campaign: what became of the run of each member.
 
 use crate::campaign::{Campaign, Choice};
+use crate::fault::{Fault, FaultKind};
 use crate::guard::{self, GuardTrap};
 use crate::journal::Event;
 use crate::report::{write_left, write_threads};
-use crate::scenario::{self, Fault, FaultKind, Scenario};
+use crate::scenario::{self, Scenario};
 use crate::side_by_side;
 use crate::simulation::{simulate, Run};
 use crate::summary::Summary;

@@ -4,24 +4,8 @@
 pub const USAGE: &str =
     "usage: nooks run | run threads | asm | dis | gen N | audit | campaign | mirror\n";
 
-/// A line for each subcommand, and one for each status.
-pub const HELP: &str = "\
-nooks run             read a scenario, simulate it, write the report
-nooks run threads     the same, each thread of the scenario as a thread of its own
-nooks asm             read a driver as assembler text, write its image as JSON
-nooks dis             read an image as JSON, write assembler text
-nooks list            read a driver as assembler text, write its words with their addresses and source lines
-nooks gen N           simulate generated scenario N (1 to 256), write the line that sums it up
-nooks gen N scenario  write generated scenario N as JSON
-nooks audit           read a scenario and a printed report, check the report line by line
-nooks campaign        read a scenario and a list of faults, simulate it once for each, write the table
-nooks mirror          read a scenario of two disks, keep one disk on both, write the report
-nooks trace P B       read a scenario, write what burst B of part P did, turn by turn (P from 0)
-nooks guard           read a scenario, stop each driver before it breaks its contract, write traps and report
-nooks guard scenario  read a scenario, write it as JSON with the traps of its guard
-nooks explore         read a scenario, follow every order of its steps, write a row for each outcome
-nooks --help          write this
-nooks --version       write the program's version, and the kit that it is proved with
+/// A line for each status.
+pub const STATUSES: &str = "\
 status 0              done; no part was given up
 status 1              a part was given up; for mirror: neither disk was left
 status 2              the words are of no form; nothing was read

@@ -1,12 +1,11 @@
 //! Traces: what one burst did, turn by turn.
 
-use crate::instructions::{Fields, Instruction, IN, JAL, LD, LI, ST};
+use crate::fault::{Fault, Strike};
+use crate::instructions::{Fields, Instruction, Row, Sets};
 use crate::journal::Event;
 use crate::lines::Outcome;
-use crate::machine::{strike, Bus, Cpu, Crossing, Strike, MOST_INSTRUCTIONS};
+use crate::machine::{Bus, Cpu, Crossing, MOST_INSTRUCTIONS};
 use crate::part::{Before, Part, Step};
-use crate::scenario::{Fault, FaultKind};
-use std::fmt::{self, Display, Formatter};
 use std::io::{self, Write};
 
 /// Writes the trace of a part's next burst, which runs in this context. Each line is written as soon as it is made.
@@ -113,19 +112,12 @@ impl Tracer<'_> {
     /// What the instruction at this address changed in the driver.
     fn write_changes(&self, word: u32, address: u32, out: &mut impl Write) -> io::Result<()> {
         let registers = &self.cpu.registers;
-        let Fields {
-            code,
-            a,
-            b,
-            immediate,
-        } = Fields::of(word);
-        match code {
-            LI..=LD | JAL | IN => write!(out, " | r{a} {}", registers[a])?,
-            ST => {
-                let target = registers[b].wrapping_add(immediate);
-                write!(out, " | [{target}] {}", registers[a])?;
-            }
-            _ => {}
+        let fields = Fields::of(word);
+        let value = registers[fields.a];
+        match Row::of(word).map_or(Sets::Nothing, |row| row.sets) {
+            Sets::Nothing => {}
+            Sets::A => write!(out, " | r{} {value}", fields.a)?,
+            Sets::Memory => write!(out, " | [{}] {value}", fields.sum(registers))?,
         }
         if self.cpu.counter != address.wrapping_add(1) {
             write!(out, " | goto {}", self.cpu.counter)?;
@@ -135,7 +127,7 @@ impl Tracer<'_> {
 
     /// Has a fault strike, and returns whether it ended the burst.
     fn write_strike(&mut self, fault: &Fault, out: &mut impl Write) -> io::Result<bool> {
-        let strike = strike(fault.kind, self.cpu, self.bus.memory);
+        let strike = fault.kind.strike(self.cpu, self.bus.memory);
         let refused = match strike {
             Strike::Refused => " refused",
             Strike::Done | Strike::Ended(_) => "",
@@ -143,18 +135,5 @@ impl Tracer<'_> {
         writeln!(out, "fault {fault}{refused}")?;
         out.flush()?;
         Ok(matches!(strike, Strike::Ended(_)))
-    }
-}
-
-impl Display for Fault {
-    fn fmt(&self, f: &mut Formatter) -> fmt::Result {
-        write!(f, "{} ", self.after)?;
-        match self.kind {
-            FaultKind::Trap => f.write_str("trap"),
-            FaultKind::Hang => f.write_str("hang"),
-            FaultKind::Poke { address, value } => write!(f, "poke {address} {value}"),
-            FaultKind::Code { address, value } => write!(f, "code {address} {value}"),
-            FaultKind::Register { register, value } => write!(f, "reg {register} {value}"),
-        }
     }
 }

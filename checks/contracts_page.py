@@ -68,11 +68,13 @@ def enter(reader: Reader, line: str) -> None:
 def head_of(lines: list[str], at: int, indent: str) -> tuple[list[str], int]:
     """The signature and the contract of the function that begins at a line, and the line of its body."""
     head: list[str] = []
+    depth = 0
     for index in range(at, len(lines)):
         line = lines[index].removeprefix(indent)
         if line in ("{", "{}"):
             return head, index
-        if line.endswith(";") or (line.endswith((" {", " {}")) and not line.startswith(" ")):
+        depth += line.count("{") - line.count("}")
+        if line.endswith(";") and depth == 0 or line.endswith((" {", " {}")) and not line.startswith(" "):
             return [*head, re.sub(r"( \{\}?|;)$", "", line)], index
         head.append(line)
     raise UnknownShape(f"a function has no body: {lines[at]}")

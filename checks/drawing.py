@@ -1,8 +1,10 @@
 """Draws inputs for the sweep: scenarios, nearly valid JSON and assembler texts. All of them depend on the generator alone."""
 
+import functools
 import json
 import re
 
+import tabling
 from running import example
 
 CLASSES = ["block", "net", "sound"]
@@ -58,7 +60,11 @@ EDGE_LINES += ["LI r1 65535", "LI r1 65536", "LI r1 0xFfFf", "LI r1 0X1", "LI r1
 EDGE_LINES += ["JMP one", "JMP n9", "FAULT 0", ".word 4294967295", ".word 4294967296", ".word 0x100000000", ".word one", ".word", ".entry init 2047"]
 EDGE_LINES += [".entry init 2048", ".entry x 0", ".class block", ".data", ".text", ".Text", "", "; a comment", "two: FAULT"]
 
-MNEMONICS = "LI LUI MOV ADD SUB AND OR XOR SHL SHR ADDI LD ST JMP BEQ BNE BLT JAL JR IN OUT KCALL RET FAULT".split()
+# The instructions in the order of their numbers, the last number, and the kinds of fault.
+INSTRUCTIONS = tabling.instructions()
+MNEMONICS = [row["name"] for row in INSTRUCTIONS]
+LAST = INSTRUCTIONS[-1]["number"]
+FAULT_KINDS = tabling.fault_kinds()
 
 # Numbers at the edges of the ranges that the format and the machine have.
 EDGES = [0, 1, 2, 3, 4, 7, 8, 11, 12, 13, 15, 16, 17, 31, 63, 64, 65, 127, 255, 256, 257, 2047, 2048, 2049, 4095, 4096]
@@ -130,27 +136,34 @@ def damaged_text(random, text):
     return "\n".join(lines)
 
 
+@functools.cache
+def named(operands, only=None, but=()):
+    """The instructions with these operands, of one group, or of all groups but some."""
+    rows = [row for row in INSTRUCTIONS if row["operands"] == operands and row["group"] not in but]
+    return [row["name"] for row in rows if only in (None, row["group"])]
+
+
 def drawn_statement(random):
     """A statement that an assembler takes."""
     a, b = (f"r{random.choice([0, 1, 2, 3, 5, 8, 14, 15])}" for _ in range(2))
     address = random.choice([0, 1, 8, 9, 64, 2048, 2112, 4096, 5184, 5248, 7360, 7424, 8191, 8192])
+    first, *others = named("a imm", only="move")
     return random.choice(
         [
-            f"LI {a} {edge(random, 65535)}",
+            f"{first} {a} {edge(random, 65535)}",
             f"LI r0 {random.choice([1, 255, 256, 257, 263, 264])}",
             f"OUT r6 {random.choice([0, 0, 1, 8])}",
-            f"LUI {a} {edge(random, 65535)}",
-            f"{random.choice(['MOV', 'ADD', 'SUB', 'AND', 'OR', 'XOR', 'SHL', 'SHR'])} {a} {b}",
-            f"ADDI {a} {b} {edge(random, 65535)}",
-            f"{random.choice(['LD', 'ST'])} {a} {b} {address}",
-            f"{random.choice(['BEQ', 'BNE', 'BLT'])} {a} {b} {random.randint(0, 60)}",
-            f"{random.choice(['JAL', 'IN', 'OUT'])} {a} {random.choice([0, 1, 2, 3, 4, 5, 8, 9, 10, 11, 12])}",
-            f"KCALL {random.randint(0, 10)}",
-            f"RET {a}",
-            f"JR {a}",
-            f"JMP {random.randint(0, 60)}",
-            "FAULT",
-            f".word {random.choice([0, random.getrandbits(32), 0x18000001, 0x19000000])}",
+            *(f"{other} {a} {edge(random, 65535)}" for other in others),
+            f"{random.choice(named('a b'))} {a} {b}",
+            *(f"{name} {a} {b} {edge(random, 65535)}" for name in named("a b imm", but=("memory", "jump"))),
+            f"{random.choice(named('a b imm', only='memory'))} {a} {b} {address}",
+            f"{random.choice(named('a b imm', only='jump'))} {a} {b} {random.randint(0, 60)}",
+            f"{random.choice(named('a imm', but=('move',)))} {a} {random.choice([0, 1, 2, 3, 4, 5, 8, 9, 10, 11, 12])}",
+            *(f"{name} {random.randint(0, 10)}" for name in named("imm", but=("jump",))),
+            *(f"{name} {a}" for name in reversed(named("a"))),
+            *(f"{name} {random.randint(0, 60)}" for name in named("imm", only="jump")),
+            *named(""),
+            f".word {random.choice([0, random.getrandbits(32), (LAST << 24) + 1, (LAST + 1) << 24])}",
         ]
     )
 
@@ -193,7 +206,7 @@ def drawn_image(random, kind):
         if random.random() < 0.1:
             return random.getrandbits(32)
         fields = random.getrandbits(8) << 16 | edge(random, 65535)
-        return random.randint(1, 24) << 24 | (fields if random.random() < 0.6 else fields & 0xF0FFFF)
+        return random.randint(1, LAST) << 24 | (fields if random.random() < 0.6 else fields & 0xF0FFFF)
     text = [0x01100000 + CLASSES.index(kind), 0x16000003, 0x01100000, 0x17100000]
     text += [word() for _ in range(random.randint(0, 40))]
     entries = {entry: 0 if entry == "init" else random.choice([4, 5, 8, 20, 2047]) for entry in ENTRIES[kind]}
@@ -227,18 +240,19 @@ def driver(random, kind):
 
 def fault(random):
     """A fault of a part."""
-    kind = random.choice(["trap", "trap", "hang", "poke", "code", "reg"])
+    kind = random.choice(FAULT_KINDS[:1] + FAULT_KINDS)
     after = random.choice([0, 1, 2, random.randint(0, 30), random.randint(0, 200), edge(random, 4095)])
-    given = {"burst": random.choice([random.randint(1, 12), random.randint(1, 40), 4294967295]), "after": after, "kind": kind}
-    if kind == "reg":
-        given["register"] = random.randint(0, 15)
-    if kind == "code":
-        given["address"] = random.choice([random.randint(0, 60), edge(random, 4294967295)])
-    if kind == "poke":
-        given["address"] = edge(random, 8192)
-    if kind in ["poke", "code", "reg"]:
-        given["value"] = random.choice([edge(random, 4294967295), random.getrandbits(32), 0x18000000, 0x17000000])
-    return given
+    given = {"burst": random.choice([random.randint(1, 12), random.randint(1, 40), 4294967295]), "after": after, "kind": kind["name"]}
+    return given | {key: fault_number(random, kind["changes"], key, allowed["most"]) for key, allowed in kind["keys"].items()}
+
+
+def fault_number(random, changes, key, most):
+    """The number at a key that only some kinds of fault have, by what the kind changes."""
+    if key == "value":
+        return random.choice([edge(random, most), random.getrandbits(32), 0x18000000, 0x17000000])
+    if key == "address":
+        return random.choice([random.randint(0, 60), edge(random, most)]) if changes == "text" else edge(random, 8192)
+    return random.randint(0, most)
 
 
 def part(random, index, version):

@@ -1,59 +1,59 @@
-"""Compares programs with the files of checks/runs, the tables of inputs.py and computed tables. checks/golden calls it.
+"""Compares programs with the files of examples/ and checks/runs, the tables of inputs.py and computed tables.
+checks/golden calls it.
 
-runs/README.md says what the files are. Each scenario and each text has at least one output, and each output its
-scenario or text. The audit of each report by its scenario must be yes. Besides, truncated inputs are
-refused, the generated scenario is the one of bench/run, and campaigns of up to 4,096 faults, of as many members and of
-every trap have their tables.
+subcommands.py says which subcommand writes which files; runs/README.md says what those of checks/runs are. Each scenario
+there has an output, each text all of its outputs, and each output its scenario or text. The audit of each report by its
+scenario must be yes. Besides, truncated inputs are refused, the generated scenario is the one of bench/run, and campaigns
+of up to 4,096 faults, of as many members and of every trap have their tables.
 """
 
 import json
 import os
-import re
 from collections.abc import Iterator
 from typing import Any
 
 import inputs
 import running
-from running import Named, Results, run
+from running import EXAMPLES, Named, Results, run
+from subcommands import READING, STORED, UNKNOWN
 
 RUNS = os.path.join(running.TOP, "checks/runs")
 
-# The outputs of a scenario, and those of a text.
-OF_SCENARIO = (".report", ".mirror", ".trace")
-OF_TEXT = (".image", ".text", ".list")
 
-def stored(name: str) -> bytes:
-    """The bytes of a file of checks/runs."""
-    with open(os.path.join(RUNS, name), "rb") as file:
+def stored(name: str, folder: str = RUNS) -> bytes:
+    """The bytes of a file of a folder."""
+    with open(os.path.join(folder, name), "rb") as file:
         return file.read()
 
 
-def names(ending: str) -> list[str]:
+def names(ending: str, folder: str = RUNS) -> list[str]:
     """The names of the files with an ending, without it."""
-    return sorted(name[: -len(ending)] for name in os.listdir(RUNS) if name.endswith(ending))
-
-
-def status_of(report: bytes) -> int:
-    """The status in the last line of a report; -1 if it has none."""
-    found = re.search(rb"(?:^|\n)status (\d+)\n$", report)
-    return int(found[1]) if found else -1
+    return sorted(name[: -len(ending)] for name in os.listdir(folder) if name.endswith(ending))
 
 
 def check_files(results: Results) -> None:
-    """No file is without its input or its output."""
-    scenarios = {name.split(".")[0] for ending in OF_SCENARIO for name in names(ending)}
-    results.same("checks/runs: scenarios, and those with a file of the same name", names(".json"), sorted(scenarios))
-    texts = {name for ending in OF_TEXT for name in names(ending)}
-    results.same("checks/runs: texts, and those with a file of the same name", names(".asm"), sorted(texts))
+    """Each scenario has an output, each text all of its outputs, and each output its input."""
+    of_scenarios = [names(output.ending) for _, output in STORED if output.of == ".json"]
+    written = {name.split(".")[0] for found in of_scenarios for name in found}
+    results.same("checks/runs: scenarios, and those with an output", names(".json"), sorted(written))
+    of_texts = [names(output.ending) for _, output in STORED if output.of != ".json"]
+    results.same("checks/runs: texts, and those with each output", [names(".asm")] * len(of_texts), of_texts)
 
 
-def check_reports(results: Results, whose: str, program: str, form: str, ending: str) -> None:
-    """Each report and its status."""
-    for name in names(ending):
-        expected = stored(name + ending)
-        ended = run(program, [form], stored(name + ".json"))
-        results.same(f"runs/{name}: the report of {whose}", ended.out, expected)
-        results.same(f"runs/{name}: the status of {whose}", ended.status, status_of(expected))
+def check_outputs(results: Results, whose: str, program: str, folder: str) -> None:
+    """The stored outputs of a folder, and their statuses. A name has the arguments after a period."""
+    is_plain = running.is_plain(program)
+    for subcommand, output in STORED:
+        for whole in names(output.ending, folder):
+            name, *arguments = whole.split(".")
+            ended = run(program, [*subcommand.name, *arguments], stored(name + output.of, folder))
+            found, expected = ended.out, stored(whole + output.ending, folder)
+            if is_plain:
+                found, expected = output.plain(found), output.plain(expected)
+            file = os.path.join(os.path.basename(folder), whole + output.ending)
+            results.same(f"{file} of {whose}", found, expected)
+            if output.status:
+                results.same(f"{file}: the status of {whose}", ended.status, output.status(expected))
 
 
 def check_audits(results: Results, whose: str, program: str) -> None:
@@ -63,25 +63,6 @@ def check_audits(results: Results, whose: str, program: str) -> None:
         results.same(f"runs/{name}: the verdict of {whose}", (ended.status, ended.out), (0, b"audit yes\n"))
 
 
-def check_traces(results: Results, whose: str, program: str) -> None:
-    """Each trace. Its name has the part and the burst; a trace that is an input error has the status of a refused input."""
-    for whole in names(".trace"):
-        name, part, burst = whole.split(".")
-        expected = stored(whole + ".trace")
-        ended = run(program, ["trace", part, burst], stored(name + ".json"))
-        results.same(f"runs/{whole}: the trace of {whose}", ended.out, expected)
-        results.same(f"runs/{whole}: the status of {whose}", ended.status, 3 if expected.startswith(b"fault ") else 0)
-
-
-def check_texts(results: Results, whose: str, program: str) -> None:
-    """What is made of each driver's text: its image, the text of that image, and its list."""
-    for name in names(".asm"):
-        given, image = stored(name + ".asm"), stored(name + ".image")
-        results.same(f"runs/{name}: its image of {whose}", run(program, ["asm"], given).out, image)
-        results.same(f"runs/{name}: the text of its image, of {whose}", run(program, ["dis"], image).out, stored(name + ".text"))
-        results.same(f"runs/{name}: its list of {whose}", run(program, ["list"], given).out, stored(name + ".list"))
-
-
 def check_inputs(results: Results, whose: str, program: str) -> None:
     """Each input of the tables, with the line of its error; one that is right ends otherwise."""
     for given, expected in inputs.scenarios():
@@ -89,37 +70,30 @@ def check_inputs(results: Results, whose: str, program: str) -> None:
         found = ended.out.decode() if ended.status == 3 else "right"
         results.same(f"run of {whose} over {shown(given)}", found, "right" if expected == "right" else f"fault {expected}\n")
     for given, expected in inputs.texts():
-        for form in ("asm", "list"):
-            ended = run(program, [form], given)
-            results.same(f"{form} of {whose} over {shown(given)}", (ended.status, ended.out), (3, f"fault {expected}\n".encode()))
-
-
-# The subcommands that read JSON, and the one line of each over a truncated input.
-CUT_OFF = [([form], "1 not_json /") for form in ("run", "dis", "campaign", "mirror", "guard", "explore")] + [
-    (["run", "threads"], "1 not_json /"),
-    (["guard", "scenario"], "1 not_json /"),
-    (["trace", "0", "1"], "1 not_json /"),
-    (["audit"], "12 bad_header /"),
-]
+        for tried in [it for it, output in STORED if output.of == ".asm"]:
+            ended = run(program, tried.words, given)
+            name = f"{' '.join(tried.words)} of {whose} over {shown(given)}"
+            results.same(name, (ended.status, ended.out), (3, f"fault {expected}\n".encode()))
 
 
 def check_prefixes(results: Results, whose: str, program: str) -> None:
     """An example's scenario, truncated at each thirteenth byte and before its last bracket."""
     whole = running.example("write-and-read.json").rstrip()
     for length in [*range(0, len(whole), 13), len(whole) - 1]:
-        for words, line in CUT_OFF:
-            ended = run(program, words, whole[:length])
-            name = f"{' '.join(words)} of {whose} over the first {length} bytes of write-and-read"
-            results.same(name, (ended.status, ended.out), (3, f"fault {line}\n".encode()))
+        for tried in READING:
+            if tried.truncated:
+                ended = run(program, tried.words, whole[:length])
+                name = f"{' '.join(tried.words)} of {whose} over the first {length} bytes of write-and-read"
+                results.same(name, (ended.status, ended.out), (3, f"fault {tried.truncated}\n".encode()))
 
 
-# Arguments that are no subcommand, in addition to those of checks/statuses.
+# Arguments that are no subcommand, in addition to MISUSED, which checks/statuses tries.
 NO_FORMS = [["list", "me"], ["gen", "257", "scenario"], ["gen", "1", "report"], ["--help", "me"], ["run", "run"], ["guard", "run"], ["explore", "1"]]
 
 
 def check_usage(results: Results, whose: str, program: str) -> None:
     """Arguments that are no subcommand all give the same line."""
-    line = run(program, ["walk"]).out
+    line = run(program, UNKNOWN.words).out
     for words in NO_FORMS:
         ended = run(program, words)
         results.same(f"{' '.join(words)} of {whose}", (ended.status, ended.out), (2, line))
@@ -188,8 +162,6 @@ def shown(given: bytes) -> str:
 
 CHECKS = [
     check_audits,
-    check_traces,
-    check_texts,
     check_inputs,
     check_prefixes,
     check_usage,
@@ -202,7 +174,7 @@ def check_stored(results: Results, programs: list[Named]) -> None:
     """All of it, by each of the programs."""
     check_files(results)
     for whose, program in programs:
-        check_reports(results, whose, program, "run", ".report")
-        check_reports(results, whose, program, "mirror", ".mirror")
+        for folder in (EXAMPLES, RUNS):
+            check_outputs(results, whose, program, folder)
         for check in CHECKS:
             check(results, whose, program)

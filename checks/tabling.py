@@ -1,4 +1,5 @@
-"""The tables of the simulator, each read from the source that has it: names, numbers, keys, limits and the memory map.
+"""The tables of the simulator, each read from the source that has it: names, numbers, keys, limits, the memory map, and
+what each instruction and each kind of fault does.
 
 checks/tables writes them as JSON for the workbench. Only the pages of docs/ have the sentence of a clause and the
 name of a register; what a page has as a number is compared with the definitions.
@@ -18,7 +19,9 @@ LIMITS = "crates/nook_data/src/limits.rt"
 MAP = "crates/nook_data/src/memory_map.rt"
 PROGRAM = "crates/nooks/src/program.rt"
 MNEMONICS = "crates/machine_defs/specs/Mnemonics.antt"
+EXECUTION = "crates/machine_defs/specs/Execution.antt"
 MACHINE = "crates/nook_data/src/machine.rt"
+BURST = "crates/machine_defs/specs/Burst.antt"
 SERVICES = "crates/machine_defs/specs/Services.antt"
 DEVICES = "crates/machine_defs/specs/Devices.antt"
 CLASSES = "crates/nook_data/specs/Classes.antt"
@@ -33,6 +36,7 @@ PLAN = "crates/input_defs/specs/PlanReading.antt"
 PLAN_LIMITS = "crates/plan_defs/src/plan.rt"
 FAULTS = "crates/input_defs/specs/Faults.antt"
 LINES = "crates/report_defs/specs/ReportLines.antt"
+REPORT = "crates/report_defs/specs/ReportText.antt"
 FORMS = "crates/command_forms/specs/Forms.antt"
 TEXTS = "crates/nooks/specs/Texts.antt"
 ENDINGS = "crates/nooks/specs/Endings.antt"
@@ -41,6 +45,15 @@ DEVICES_PAGE = "docs/DEVICES.md"
 
 # Which operands a form has, in the words of the assembler's page.
 OPERANDS = {"Bare": "", "A": "a", "Imm": "imm", "AB": "a b", "AImm": "a imm", "ABImm": "a b imm"}
+
+# The groups of instructions by the definition with which the right side of `executed` begins. Of those that it does not
+# name `puts` computes, and what sets the counter jumps.
+GROUPS = {"loads": "memory", "stores": "memory", "jumps": "jump", "past_input": "port", "past_output": "port"}
+GROUPS |= {"crosses": "kernel", "trapped": "kernel"}
+
+# The signs of the tests of registers a and b by which an instruction jumps.
+SIGNS = {"(r m a == r m b)": "=", "(not (r m a == r m b))": "!="}
+SIGNS |= {"(nat_lt (r m a) (r m b))": "<", "(not (nat_lt (r m a) (r m b)))": ">="}
 
 # What a definition has between spaces: a word, or something in brackets.
 INNER = r"\((?:[^()]|\([^()]*\))*\)"
@@ -197,8 +210,15 @@ def kinds(file: str, named: str, keys: str, read: str) -> list[Row]:
 
 
 def fault_kinds() -> list[Row]:
-    """The kinds of fault that a scenario may name."""
-    return kinds(PART, "fault_named", "fault_keys", "fault_kind")
+    """The kinds of fault that a scenario may name: the cause with which one stops the driver or what it changes, and its keys."""
+    causes = {name: texts(body)[0] for name, body in by_variant(LINES, "trap_text").items()}
+    stops = {kind: f"trap {causes[cause]}" for kind, cause in re.findall(r"fault\.(\w+) ↦ Some trap\.(\w+)", body_of(BURST, "trap_of"))}
+    changes = dict.fromkeys(by_variant(BURST, "struck_registers"), "register")
+    changes |= {kind: "text" if "TEXT_WORDS" in body else "memory" for kind, body in by_variant(BURST, "struck_memory").items()}
+    names = list(by_variant(PART, "fault_keys"))
+    rows_read = kinds(PART, "fault_named", "fault_keys", "fault_kind")
+    return [{"name": row["name"], "stops": stops.get(name), "changes": changes.get(name), "keys": row["keys"]}
+            for name, row in zip(names, rows_read, strict=True)]
 
 
 def schedules() -> list[Row]:
@@ -289,15 +309,46 @@ def ports_of(name: str) -> list[int]:
 
 
 def instructions() -> list[Row]:
-    """The instructions of the driver machine in the order of their numbers, each with its operands."""
+    """The instructions of the driver machine in the order of their numbers, each with its operands and what it does."""
     found = []
     for equation in equations(MNEMONICS, "instruction_row"):
-        row = matched(r'^row \(codes "(\w+)"\) (0x[0-9a-f]+) form\.(\w+) ', equation.body, MNEMONICS, "a row of instruction_row")
-        found.append({"name": row[1], "number": int(row[2], 16), "operands": OPERANDS[row[3]]})
+        shape = r'^(sets|row) \(codes "(\w+)"\) (0x[0-9a-f]+) form\.(\w+) '
+        row = matched(shape, equation.body, MNEMONICS, "a row of instruction_row")
+        sets, name, number, operands = row[1] == "sets", row[2], int(row[3], 16), OPERANDS[row[4]]
+        doing = doings()[last_name(equation.arguments)]
+        found.append({"name": name, "number": number, "operands": operands, "sets": sets, **does(doing, operands)})
     order = [last_name(name) for name in re.findall(r"mnemonic\.\w+", body_of(MNEMONICS, "mnemonics"))]
     if order != [last_name(equation.arguments) for equation in equations(MNEMONICS, "instruction_row")]:
         raise UnknownShape(f"{MNEMONICS}: mnemonics and instruction_row have another order")
     return found
+
+
+def doings() -> dict[str, str]:
+    """What each instruction does, by its variant: the right sides of `executed`."""
+    return {last_name(matched(r"\(?instr\.\w+", equation.arguments, EXECUTION, "an equation of executed")[0]): equation.body
+            for equation in equations(EXECUTION, "executed")}
+
+
+def does(body: str, operands: str) -> Row:
+    """What an instruction does by its right side of `executed`: its group, the registers that it reads, whether the next word
+    may be executed after it, and how it compares registers a and b, if it does."""
+    first = body.split(" ")[0]
+    to_counter = "counter = " in body
+    reads = [each for each in operands.split() if f"r m {each}" in body or (first, each) == ("stores", "a")]
+    ends = first == "trapped" or "ends.Reply" in body or to_counter and "next_counter" not in body
+    signs = [sign for test, sign in SIGNS.items() if body == f"jumps m {test} imm"]
+    compared = {"compares": signs[0]} if signs else {}
+    return {"group": group_of(first, body, to_counter), "reads": " ".join(reads), "next": not ends, **compared}
+
+
+def group_of(first: str, body: str, to_counter: bool) -> str:
+    """The group of an instruction: a move puts a constant or another register, as it is, and a sum computes."""
+    if first == "puts":
+        return "move" if body == "puts m a (r m b)" or "imm" in body and "r m b" not in body else "sum"
+    group = "jump" if to_counter else GROUPS.get(first)
+    if group is None:
+        raise UnknownShape(f"{EXECUTION}: checks/tables knows no group of instructions that begin with {first!r}")
+    return group
 
 
 def services() -> list[Row]:
@@ -329,8 +380,20 @@ def words_of(name: str) -> list[str]:
     return list(dict.fromkeys(firsts))
 
 
+def line_words(name: str) -> list[str]:
+    """The first words of the lines that a definition writes, itself or by others of its file, each once, in their order."""
+    bodies = " ".join(equation.body for equation in equations(REPORT, name))
+    found: list[str] = []
+    for word, other in re.findall(r'codes "([a-z]+)|\b(\w+_(?:lines?|text))\b', bodies):
+        is_here = other and other != name and re.search(rf"(?m)^(?:abbrev|unfoldable) pub {other} :", text_of(REPORT))
+        found += line_words(other) if is_here else [word]
+    return list(filter(None, dict.fromkeys(found)))
+
+
 def report() -> dict[str, list[str]]:
-    """The words of a report's events."""
+    """The words of a report's events, and the first words of lines: those after a part's events, those of them that count
+    losses, and those after the threads, of which the last is the status."""
+    before = {*line_words("parts_text"), *line_words("threads_text")}
     return {
         "stages": words_of("stage_text"),
         "acts": words_of("act_text"),
@@ -339,6 +402,9 @@ def report() -> dict[str, list[str]]:
         "causes": words_of("cause_text"),
         "traps": words_of("trap_text"),
         "wrong": [snake(name) for name in wrong_answers()],
+        "closing": line_words("final_lines"),
+        "losses": line_words("losses_lines"),
+        "ending": [word for word in line_words("report_text") if word not in before],
     }
 
 
@@ -407,16 +473,16 @@ def same_form(named: list[str], words: list[str | None]) -> bool:
 
 
 TABLES = (
-    Table("instructions", (MNEMONICS,), instructions),
+    Table("instructions", (MNEMONICS, EXECUTION), instructions),
     Table("services", (MACHINE, SERVICES), services),
     Table("classes", (CLASSES, CLASS_NAMES, KEYS, PART, DEVICES_PAGE), classes),
     Table("ports", (DEVICES,), ports),
     Table("operations", (SCENARIO, CLASSES), operations),
-    Table("fault_kinds", (PART,), fault_kinds),
+    Table("fault_kinds", (PART, BURST, LINES), fault_kinds),
     Table("schedules", (SCENARIO,), schedules),
     Table("inputs", (SCENARIO, PART, IMAGE, CAMPAIGN, PLAN), inputs),
     Table("clauses", (CLAUSES, REPORT_PAGE), clauses),
-    Table("report", (LINES, CLASSES), report),
+    Table("report", (LINES, REPORT, CLASSES), report),
     Table("fault_lines", (FAULTS, TEXTS), fault_lines),
     Table("asm_faults", (FAULTS,), asm_faults),
     Table("statuses", (ENDINGS, TEXTS), statuses),

@@ -4,8 +4,8 @@ checks/pages uses this module. `python3 -B checks/wording.py [PATH..]` prints wh
 counts, by default in those of CODE.
 
 Texts in backticks and in quotation marks are not looked at: they quote the program, a format or a name. Names are those
-that Python code defines, and all identifiers of the crates' languages, C and JavaScript, split at underscores and
-capitals. Of a must-fail edit its `old:` and `new:` lines are looked at.
+that Python code defines, and all identifiers of the crates' languages, C and JavaScript, split at underscores, primes
+and capitals. Of a must-fail edit its `old:` and `new:` lines are looked at.
 """
 
 from __future__ import annotations
@@ -69,10 +69,11 @@ RETIRED_IN_NAMES = {
 CODE = ("crates", "checks", "bench", "workbench", "packaging", "examples")
 CODE += ("Makefile", ".ci/run", "nooks", "nooks-plain", "nooks-unproved", "pyproject.toml")
 
-# Folders below these that have no code, with the reason.
+# Folders below these that have no code, each by its name or the pattern of its path, with the reason.
 NO_CODE = {
     "checks/runs": "inputs and outputs of the program, compared byte for byte",
     "__pycache__": "compiled files of Python",
+    "crates/*/out": "outputs of the prover",
 }
 
 # What may stay: the pattern of a file's path, and a name or a word of its comments in small letters, with the reason.
@@ -137,7 +138,7 @@ def found_in(text: str) -> Iterator[tuple[int, str, str]]:
 
 def retired_in_name(name: str) -> str | None:
     """What to write instead of a name with a retired word; None if it has none."""
-    for part in re.sub(r"(?<=[a-z0-9])(?=[A-Z])", "_", name).lower().split("_"):
+    for part in re.split("[_']", re.sub(r"(?<=[a-z0-9])(?=[A-Z])", "_", name).lower()):
         for words, instead in RETIRED_IN_NAMES.items():
             if re.fullmatch(words, part):
                 return instead
@@ -212,6 +213,7 @@ def all_in(path: str) -> list[Finding]:
     for comment in joined(comments):
         for line, word, instead in found_in(MARKS.sub("", comment.text)):
             found.append(Finding(path, comment.line + line, word, instead))
+    names.append(Piece(1, 0, re.split(r"[.+]", os.path.basename(path))[0].replace("-", "_")))
     first = {name.text: name for name in sorted(names, reverse=True)}
     for name in sorted(first.values()):
         better = retired_in_name(name.text)
@@ -238,6 +240,11 @@ def unused_exceptions() -> list[tuple[str, str]]:
     return [key for key in EXCEPTIONS if key not in used]
 
 
+def has_code(above: str, folder: str) -> bool:
+    """Whether a folder's files may be code, by the path of the folder above it and its name."""
+    return not any(fnmatch(path, pattern) for pattern in NO_CODE for path in (folder, os.path.join(above, folder)))
+
+
 def files_of(paths: Iterable[str] = CODE) -> Iterator[str]:
     """The files of code in some folders, or at some paths from the top."""
     for path in paths:
@@ -245,7 +252,7 @@ def files_of(paths: Iterable[str] = CODE) -> Iterator[str]:
             yield path
         for folder, folders, files in os.walk(os.path.join(TOP, path)):
             name = os.path.relpath(folder, TOP)
-            folders[:] = sorted(each for each in folders if not {each, os.path.join(name, each)} & NO_CODE.keys())
+            folders[:] = sorted(each for each in folders if has_code(name, each))
             yield from (os.path.join(name, each) for each in sorted(files))
 
 

@@ -6,13 +6,16 @@ import json
 
 import described  # noqa: F401  (it puts the workbench on the path)
 
-from nooks_bench.facts import CLASSES, OPERANDS, REGISTERS
+from nooks_bench.facts import CLASSES, JUMP, KERNEL, MEMORY, MNEMONICS, MOVE, PORT, REGISTERS, SUM
 
-# Instructions by kind, as an editor colours them; those in no list are arithmetic.
-MOVES = ("LI", "LUI", "MOV", "LD", "ST")
-JUMPS = ("JMP", "BEQ", "BNE", "BLT", "JAL", "JR")
-OUTSIDE = ("IN", "OUT", "KCALL", "RET", "FAULT")
-SUMS = tuple(name for name in OPERANDS if name not in (*MOVES, *JUMPS, *OUTSIDE))
+
+def named(*groups: str) -> tuple[str, ...]:
+    """The instructions of some groups."""
+    return tuple(name for name, mnemonic in MNEMONICS.items() if mnemonic.group in groups)
+
+
+# Instructions as an editor colours them.
+MOVES, SUMS, JUMPS, OUTSIDE = named(MOVE, MEMORY), named(SUM), named(JUMP), named(PORT, KERNEL)
 
 VIM = r"""" Vim syntax for the assembler of nooks (docs/ASSEMBLER.md). This file is generated: checks/tables
 if exists("b:current_syntax")
@@ -53,17 +56,6 @@ let b:current_syntax = "nooksasm"
 """
 
 
-def unknown() -> list[str]:
-    """The names in the lists that are no instructions."""
-    return [name for name in (*MOVES, *JUMPS, *OUTSIDE) if name not in OPERANDS]
-
-
-def checked() -> None:
-    """Raises an error if a list has a name that is no instruction."""
-    if unknown():
-        raise ValueError(f"packaging/editors.py colours what is no instruction: {', '.join(unknown())}")
-
-
 def registers(bar: str) -> str:
     """A pattern for the numbers of the registers, `[0-9]|1[0-5]`, with the editor's syntax for the bar."""
     return bar.join(["[0-9]", f"1[0-{REGISTERS - 11}]"])
@@ -71,7 +63,6 @@ def registers(bar: str) -> str:
 
 def vim_syntax() -> str:
     """The text of vim's syntax file."""
-    checked()
     lists = {"CLASSES": tuple(CLASSES), "MOVES": MOVES, "SUMS": SUMS, "JUMPS": JUMPS, "OUTSIDE": OUTSIDE}
     text = VIM.replace("REGISTERS", registers("\\|"))
     for name, words in lists.items():
@@ -81,7 +72,6 @@ def vim_syntax() -> str:
 
 def grammar() -> str:
     """The text of VS Code's grammar."""
-    checked()
     rules = [
         ("comment.line.semicolon", ";.*$"),
         ("entity.name.function.label", "(?<![A-Za-z0-9_.])[A-Za-z_][A-Za-z0-9_]{0,31}:"),

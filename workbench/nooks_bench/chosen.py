@@ -5,7 +5,7 @@ from __future__ import annotations
 import random
 from typing import Sequence
 
-from .facts import FAULT_KINDS, MEMORY_MAP, MOST_WORD, REGISTERS
+from .facts import CHANGES, FAULT_KINDS, MEMORY_MAP, MOST_WORD, REGISTERS
 from .faults import Selection
 from .probe import Probe
 from .program import Mistake
@@ -76,13 +76,14 @@ def drawn(selection: Selection, positions: list[tuple[int, int]], probe: Probe) 
     """Faults at positions drawn from these. What the selection does not name is drawn too: a word of the driver's own
     memory for a poke, a word of the text for a code fault, any register, any value."""
     draw = random.Random(selection.seed)
-    words = len(probe.listing) if "code" in selection.kinds and not selection.addresses else 1
+    in_text = {kind for kind in selection.kinds if CHANGES.get(kind) == "text"}
+    words = len(probe.listing) if in_text and not selection.addresses else 1
     found: list[Fault] = []
     for _ in range(selection.random or 0):
         burst, after = draw.choice(positions)
         fault: Fault = {"burst": burst, "after": after, "kind": draw.choice(selection.kinds)}
         if "address" in FAULT_KINDS[fault["kind"]]:
-            low, high = OWN_WORDS if fault["kind"] == "poke" else (0, max(words, 1) - 1)
+            low, high = (0, max(words, 1) - 1) if fault["kind"] in in_text else OWN_WORDS
             fault["address"] = draw.choice(selection.addresses) if selection.addresses else draw.randint(low, high)
         if "register" in FAULT_KINDS[fault["kind"]]:
             fault["register"] = draw.choice(selection.registers) if selection.registers else draw.randrange(REGISTERS)

@@ -91,6 +91,33 @@ def class_of(row: dict[str, Any]) -> DriverClass:
     return DriverClass(row["name"], row["code"], entries, keys, later, registers)
 
 
+@dataclass(frozen=True)
+class Mnemonic:
+    """An instruction of the driver machine. Of its operands `a` and `b` are registers, `imm` is a number or a label.
+    `sets` says whether it sets register a, `reads` which registers it reads, `next` whether the next word may be
+    executed after it, and `compares` how it compares a and b, if it does."""
+
+    name: str
+    number: int
+    operands: str
+    sets: bool
+    group: str
+    reads: str
+    next: bool
+    compares: str = ""
+
+    @property
+    def each_operand(self) -> list[str]:
+        return self.operands.split()
+
+    def does_read(self, operand: str) -> bool:
+        return operand in self.reads.split()
+
+
+# The groups of instructions.
+GROUPS = MOVE, SUM, MEMORY, JUMP, PORT, KERNEL = ("move", "sum", "memory", "jump", "port", "kernel")
+
+
 def numbered(table: str, column: str = "name") -> dict[int, str]:
     """A table whose rows have numbers: for each number, the text in a column of its row."""
     return {row["number"]: row[column] for row in TABLES[table]}
@@ -98,14 +125,19 @@ def numbered(table: str, column: str = "name") -> dict[int, str]:
 
 CLASSES: dict[str, DriverClass] = {row["name"]: class_of(row) for row in TABLES["classes"]}
 
-# The operands of each instruction, and its number: `a` and `b` are registers, `imm` is a number or a label.
-OPERANDS: dict[str, str] = {row["name"]: row["operands"] for row in TABLES["instructions"]}
-OPCODES: dict[str, int] = {row["name"]: row["number"] for row in TABLES["instructions"]}
+MNEMONICS: dict[str, Mnemonic] = {row["name"]: Mnemonic(**row) for row in TABLES["instructions"]}
+OPERANDS = {name: mnemonic.operands for name, mnemonic in MNEMONICS.items()}
+OPCODES = {name: mnemonic.number for name, mnemonic in MNEMONICS.items()}
 
 # The keys that only some operations, kinds of fault and kinds of schedule have.
 OPERATIONS: dict[str, Keys] = {row["name"]: keys_of(row["keys"]) for row in TABLES["operations"]}
 FAULT_KINDS: dict[str, Keys] = {row["name"]: keys_of(row["keys"]) for row in TABLES["fault_kinds"]}
 SCHEDULES: dict[str, Keys] = {row["name"]: keys_of(row["keys"]) for row in TABLES["schedules"]}
+
+# The cause with which a kind of fault stops the driver, and what another kind changes: a register, or a word of memory
+# or of the text.
+STOPS: dict[str, str] = {row["name"]: row["stops"] for row in TABLES["fault_kinds"] if row["stops"]}
+CHANGES: dict[str, str] = {row["name"]: row["changes"] for row in TABLES["fault_kinds"] if row["changes"]}
 
 # What the keys of each kind of object of an input accept.
 INPUTS: dict[str, Keys] = {name: keys_of(table) for name, table in TABLES["inputs"].items()}

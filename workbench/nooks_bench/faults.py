@@ -46,6 +46,12 @@ class Selection:
     values: tuple[int, ...]
 
 
+def users(option: str) -> str:
+    """The kinds that have a key, in words."""
+    *others, last = USERS[option]
+    return f"{', '.join(others)} and {last}" if others else last
+
+
 def add_selection(parser: argparse.ArgumentParser) -> None:
     """The options that choose the faults."""
     about = "which faults are tried; without --burst or --call every burst of a call"
@@ -60,9 +66,9 @@ def add_selection(parser: argparse.ArgumentParser) -> None:
     group.add_argument("--at-acts", action="store_true", help="only just before and just after each act on the device")
     group.add_argument("--random", type=int, metavar="N", help="N faults drawn from the chosen instructions and kinds")
     group.add_argument("--seed", type=int, default=1, metavar="S", help="the seed of the random choices (default 1)")
-    group.add_argument("--address", metavar="A-B", help="for poke and code: these addresses")
-    group.add_argument("--register", metavar="A-B", help="for reg: these registers")
-    group.add_argument("--value", metavar="A-B", help="for poke, code and reg: these values (default 1)")
+    group.add_argument("--address", metavar="A-B", help=f"for {users('address')}: these addresses")
+    group.add_argument("--register", metavar="A-B", help=f"for {users('register')}: these registers")
+    group.add_argument("--value", metavar="A-B", help=f"for {users('value')}: these values (default 1)")
 
 
 def check_range(option: str, number: int | None, ends: tuple[int, int]) -> None:

@@ -7,6 +7,7 @@ import re
 from dataclasses import dataclass, field
 from typing import Any
 
+from .facts import CHANGES
 from .outcomes import BROKEN, LOSSES, OUTCOMES
 from .scenario import Fault
 from .unstruck import strikes_text
@@ -147,7 +148,7 @@ def short_label(text: str) -> str:
 
 def target_label(kind: str, value: int, faults: list[Fault]) -> str:
     """The label of several registers or addresses with one kind and value."""
-    if kind == "reg":
+    if CHANGES.get(kind) == "register":
         ranges = ranges_text(fault["register"] for fault in faults)
         text = re.sub(r"(\d+)", r"r\1", ranges)
         text = re.sub(r"by r(\d+)", r"by \1", text)

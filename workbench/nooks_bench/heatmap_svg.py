@@ -7,6 +7,7 @@ import math
 from collections import Counter
 from dataclasses import dataclass
 
+from .facts import JUMP, KERNEL, MEMORY, MNEMONICS as BY_NAME, PORT
 from .heatmap_rows import Cell, Cells, Group
 from .outcomes import BROKEN, CHANGED, GIVEN_UP, LOSSES, MISSED, NO_TRACE, OUTCOMES, RECOVERED
 from .picture import caption
@@ -41,10 +42,9 @@ SHADES = (("#fbe0a8", BLACK), ("#f3b942", BLACK), ("#cf8600", BLACK), ("#955b00"
 # Hatches by which clauses differ if a number does not fit.
 HATCHES = (BLACK, "#ffffff", "#f0e442", "#56b4e9", "#e69f00", "#cc79a7")
 
-# The background of an instruction in the strip, by what it is about.
-KINDS = {**dict.fromkeys(("IN", "OUT"), "#cfe6f5"), **dict.fromkeys(("KCALL", "RET", "FAULT"), "#f6d9c6"),
-         **dict.fromkeys(("JMP", "BEQ", "BNE", "BLT", "JAL", "JR"), "#e3e3e3"),
-         **dict.fromkeys(("LD", "ST"), "#dff0e8")}
+# The background of an instruction in the strip, by its group; the others are white.
+GROUP_FILLS = {PORT: "#cfe6f5", KERNEL: "#f6d9c6", JUMP: "#e3e3e3", MEMORY: "#dff0e8"}
+KINDS = {name: GROUP_FILLS.get(mnemonic.group, WHITE) for name, mnemonic in BY_NAME.items()}
 
 
 @dataclass(frozen=True)

@@ -7,36 +7,24 @@ import json
 from dataclasses import dataclass
 from typing import Any, Iterator
 
-from .facts import CLASSES, OPERANDS, REGISTERS, SERVICES
+from .facts import CLASSES, JUMP, MEMORY, MNEMONICS, REGISTERS, SERVICES, Mnemonic
 from .program import Program
 
 # What an operand is for.
 DESTINATION, SOURCE, POINTER, NUMBER, TARGET = "destination", "source", "pointer", "number", "target"
 
-# The operands of each instruction, in their order (docs/DRIVER_MACHINE.md).
-COMPUTES = ("ADD", "SUB", "AND", "OR", "XOR", "SHL", "SHR")
-CONDITIONS = ("BEQ", "BNE", "BLT")
-ROLES: dict[str, tuple[str, ...]] = {
-    "LI": (DESTINATION, NUMBER),
-    "LUI": (DESTINATION, NUMBER),
-    "MOV": (DESTINATION, SOURCE),
-    **dict.fromkeys(COMPUTES, (DESTINATION, SOURCE)),
-    "ADDI": (DESTINATION, SOURCE, NUMBER),
-    "LD": (DESTINATION, POINTER, NUMBER),
-    "ST": (SOURCE, POINTER, NUMBER),
-    "JMP": (TARGET,),
-    **dict.fromkeys(CONDITIONS, (SOURCE, SOURCE, TARGET)),
-    "JAL": (DESTINATION, TARGET),
-    "JR": (SOURCE,),
-    "IN": (DESTINATION, NUMBER),
-    "OUT": (SOURCE, NUMBER),
-    "KCALL": (NUMBER,),
-    "RET": (SOURCE,),
-    "FAULT": (),
-}
 
-# Instructions whose destination is read too.
-READS_DESTINATION = (*COMPUTES, "LUI")
+def roles_of(mnemonic: Mnemonic) -> tuple[str, ...]:
+    """The roles of an instruction's operands, in their order."""
+    roles = {
+        "a": DESTINATION if mnemonic.sets else SOURCE,
+        "b": POINTER if mnemonic.group == MEMORY else SOURCE,
+        "imm": TARGET if mnemonic.group == JUMP else NUMBER,
+    }
+    return tuple(roles[operand] for operand in mnemonic.each_operand)
+
+
+ROLES: dict[str, tuple[str, ...]] = {name: roles_of(mnemonic) for name, mnemonic in MNEMONICS.items()}
 
 # The registers that a service of the kernel checks, and the one that has its result.
 ARGUMENTS = {"alloc": (1,), "free": (1,), "register": (1,), "borrow": (1,), "give_back": (1,), "net_rx": (1, 2)}
@@ -85,10 +73,9 @@ class Instruction:
 
     def reads(self) -> set[int]:
         """The registers that it reads, those of a kernel call's arguments too."""
-        found = {self.operands[index] for role in (SOURCE, POINTER) for index in self.of_role(role)}
-        if self.name in READS_DESTINATION:
-            found.add(self.operands[0])
-        return found | set(self.arguments())
+        mnemonic = MNEMONICS[self.name]
+        operands = zip(mnemonic.each_operand, self.operands)
+        return {number for operand, number in operands if mnemonic.does_read(operand)} | set(self.arguments())
 
     def arguments(self) -> tuple[int, ...]:
         """The registers that the kernel checks, if it is a kernel call."""
@@ -101,16 +88,14 @@ class Instruction:
     def next(self) -> list[int]:
         """The addresses to which the counter may go. It is not known whether a subroutine returns: it may."""
         target = self.operand(TARGET)
-        if self.name == "JMP" and target is not None:
-            return [target]
-        if self.name in ("RET", "JR", "FAULT"):
-            return []
-        return [self.address + 1] + ([target] if target is not None else [])
+        following = [self.address + 1] if MNEMONICS[self.name].next else []
+        return following + ([target] if target is not None else [])
 
 
 def text_of(name: str, operands: tuple[int, ...]) -> str:
     """An instruction as text."""
-    written = [f"r{each}" if sort in ("a", "b") else str(each) for sort, each in zip(OPERANDS[name].split(), operands)]
+    sorts = MNEMONICS[name].each_operand
+    written = [str(each) if sort == "imm" else f"r{each}" for sort, each in zip(sorts, operands)]
     return " ".join([name, *written])
 
 

@@ -5,8 +5,8 @@ from __future__ import annotations
 from dataclasses import dataclass
 from typing import Callable, Iterable, Iterator
 
-from .facts import REGISTERS
-from .inject_code import (CONDITIONS, DESTINATION, FROM_CALLER, NOTHING, NUMBER, POINTER, SOURCE, TARGET, Code, Flow,
+from .facts import MEMORY, MNEMONICS, MOVE, REGISTERS, SUM
+from .inject_code import (DESTINATION, FROM_CALLER, NOTHING, NUMBER, POINTER, ROLES, SOURCE, TARGET, Code, Flow,
                           Instruction, encoded, flow_of, text_of)
 from .program import Program
 
@@ -15,8 +15,13 @@ MOST_NUMBER = 2**16 - 1
 NUMBER_BITS = 16
 WORD_BITS = 32
 
-# Instructions with a number that counts or points: a limit, a start, a step, an index.
-COUNTING = ("LI", "ADDI", "LD", "ST")
+# Instructions with a number that counts or points: a limit, a start, a step, an index. The number of one that also
+# reads the register that it sets is half a word, and does neither.
+COUNTING = [name for name, mnemonic in MNEMONICS.items() if mnemonic.group in (MOVE, SUM, MEMORY)
+            and NUMBER in ROLES[name] and not (mnemonic.sets and mnemonic.does_read("a"))]
+
+# Comparisons, each with its opposite.
+OPPOSITES = {"=": "!=", "!=": "=", "<": ">=", ">=": "<"}
 
 
 @dataclass(frozen=True)
@@ -92,13 +97,16 @@ def branches(flow: Flow) -> Iterator[Replacement]:
 
 
 def loops(flow: Flow) -> Iterator[Replacement]:
-    """The condition of a backward branch is inverted. `BLT` has no opposite: its registers are exchanged."""
-    opposite = {"BEQ": "BNE", "BNE": "BEQ", "BLT": "BLT"}
+    """The condition of a backward branch is inverted. If no instruction has the opposite condition, as for `BLT`, the
+    registers are exchanged."""
+    by_condition = {mnemonic.compares: name for name, mnemonic in MNEMONICS.items()}
     for each in flow.code.instructions:
-        if each.name in CONDITIONS and each.operands[2] <= each.address:
+        condition = MNEMONICS[each.name].compares
+        if condition and each.operands[2] <= each.address:
             one, other, target = each.operands
-            registers = (other, one) if each.name == "BLT" else (one, other)
-            yield each.address, text_of(opposite[each.name], (*registers, target))
+            opposite = by_condition.get(OPPOSITES[condition])
+            registers = (one, other) if opposite else (other, one)
+            yield each.address, text_of(opposite or each.name, (*registers, target))
 
 
 def left_out(flow: Flow) -> Iterator[Replacement]:

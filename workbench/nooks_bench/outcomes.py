@@ -8,7 +8,7 @@ import re
 from dataclasses import dataclass, field
 from typing import Any, Callable, Iterable
 
-from .facts import FAULT_KINDS, STATUSES
+from .facts import STATUSES, STOPS
 from .program import Mistake
 from .report import Event, Part, Report
 from .scenario import Fault, Scenario
@@ -211,11 +211,11 @@ class Judge:
             return Outcome(MISSED)
         if row.detail is not None:
             return self.by_detail(row, row.detail)
-        if FAULT_KINDS[fault["kind"]] or self.is_open or self.base.status or row.status == STATUSES["contract_broken"]:
+        cause = STOPS.get(fault["kind"])
+        if cause is None or self.is_open or self.base.status or row.status == STATUSES["contract_broken"]:
             return None
         if row.lost or base.lost:
             return None
-        cause = "trap injected" if fault["kind"] == "trap" else "trap hang"
         return Outcome(GIVEN_UP if row.status else RECOVERED, cause)
 
     def by_detail(self, row: Row, detail: Detail) -> Outcome | None:
@@ -264,7 +264,7 @@ class Judge:
         ours, theirs = report.parts[self.part], self.base.parts[self.part]
         struck = [event for event in ours.bursts() if event.burst == fault["burst"] and event.failed]
         base = self.burst(fault)
-        stops = not FAULT_KINDS[fault["kind"]]
+        stops = fault["kind"] in STOPS
         if struck and base and (stops or struck[0].cause != base.cause):
             return struck[0]
         if ours.failures > theirs.failures:

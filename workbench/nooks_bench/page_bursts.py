@@ -6,7 +6,6 @@ burst's start."""
 
 from __future__ import annotations
 
-import re
 from typing import Any, Iterator
 
 from .deeds import Deed
@@ -19,10 +18,8 @@ from .report import Event, GuardTrap, Part
 from .scenario import Scenario
 from .state_rows import History
 from .trace import effect, head_lines, port_line, register_lines, since_reset, strike_text, traced
-from .trace_text import REG_FAULT, Executed, Struck, Trace
+from .trace_text import REGISTER_FAULT, WORD_FAULT, Executed, Struck, Trace
 from .words import cause_words, short
-
-WORD_FAULT = re.compile(r"(?:poke|code) (\d+) (\d+)")
 
 
 def important(part: Part, struck: set[int]) -> list[int]:
@@ -64,7 +61,7 @@ def changes(trace: Trace) -> Iterator[tuple[int, str, int, int]]:
     """Yields what each item changes: the item's number, `register` or `word`, which one, and its new value."""
     for number, item in enumerate(trace.items, 1):
         if isinstance(item, Struck):
-            if found := REG_FAULT.fullmatch(item.text):
+            if found := REGISTER_FAULT.fullmatch(item.text):
                 yield number, "register", int(found[1]), int(found[2])
             elif found := WORD_FAULT.fullmatch(item.text):
                 yield number, "word", int(found[1]), int(found[2])

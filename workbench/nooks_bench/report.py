@@ -12,6 +12,10 @@ from .program import Mistake
 # The context in which the shadow's own calls run.
 SHADOW = LIMITS["SHADOW"]
 
+# The first words of the lines that count losses, of those that have what is left, and of those after the threads.
+LOSSES, ENDING = WORDS["losses"], WORDS["ending"]
+LEFT = set(WORDS["closing"]) - {*LOSSES, "config", "failures", "contract"}
+
 PART = re.compile(rf"part (\d+) (\w+) ({'|'.join(CLASSES)}) limit (\d+)")
 EVENT = re.compile(r"(\d+) (invoke|enter|burst|stage|arrive) (.*)")
 INVOKE = re.compile(r"c(\d+) t(\d+) (.*?)(?: -> (.*))?")
@@ -99,7 +103,9 @@ class Thread:
 
 @dataclass
 class Report:
-    """A report. If it is one of a guarded run, `guards` has the traps of the guard in the order of the run."""
+    """A report. If it is one of a guarded run, `guards` has the traps of the guard in the order of the run.
+
+    `taps` has the lines between the threads and the status."""
 
     guards: list[GuardTrap] = field(default_factory=list)
     parts: list[Part] = field(default_factory=list)
@@ -147,10 +153,10 @@ class Lines:
             self.report.guards.append(GuardTrap(part, burst, after, clause))
         elif words[0] == "thread" and len(words) == 3:
             self.report.threads.append(Thread(int(words[1]), words[2]))
-        elif words[0] == "tap":
-            self.report.taps.append(line)
-        elif words[0] == "status":
+        elif words[0] == ENDING[-1]:
             self.report.status = int(words[1])
+        elif words[0] in ENDING:
+            self.report.taps.append(line)
         elif self.report.threads:
             self.answer(line)
         elif self.report.parts:
@@ -173,11 +179,11 @@ class Lines:
             if event.number != len(part.events) + 1:
                 raise Mistake(f"an event is missing before {line[:80]!r}")
             part.events.append(event)
-        elif words[0] in ("object", "disk", "wire", "played"):
+        elif words[0] in LEFT:
             part.left.append(line)
         elif words[0] == "config":
             part.config = line[7:]
-        elif words[0] in ("losses", "frames"):
+        elif words[0] in LOSSES:
             part.losses.append(line)
         elif words[0] == "failures":
             part.failures = int(words[1])

@@ -2,9 +2,11 @@
 
 from __future__ import annotations
 
+from collections.abc import Iterable
 from dataclasses import dataclass, field
 
 from .calls import Call, calls_of
+from .facts import FAULT_KINDS
 from .guards import stopped_line
 from .held import resource_lines
 from .report import Event, GuardTrap, Part, Report
@@ -27,12 +29,22 @@ LOSSES = {
     "full_queue": "frames at a full queue",
 }
 
+
+def lettered(names: Iterable[str], taken: str) -> dict[str, str]:
+    """A capital for each name: that of its first letter that no earlier name has and that is not taken."""
+    found: dict[str, str] = {}
+    for name in names:
+        free = [letter for letter in name.upper() if letter.isalpha() and letter not in {taken, *found.values()}]
+        found[name] = free[0]
+    return found
+
+
 # The letters of stages, of acts on the device, and of a scenario's faults, in texts and in drawings.
 STAGES = dict(zip(("stop", "collect", "reset", "load", "init", "replay_set", "replay_open", "resume"), "SCRLIPOU"))
 ACTS = {"load": "l", "store": "s", "sent": "t", "popped": "o", "played": "p", "register": "r", "failed": "f"}
 SEVERAL = "+"
-STRIKES = {"trap": "T", "hang": "H", "poke": "P", "code": "C", "reg": "R"}
 GUARD = "G"
+STRIKES = lettered(FAULT_KINDS, GUARD)
 
 
 @dataclass(frozen=True)

@@ -7,6 +7,7 @@ import json
 from typing import Callable
 
 from .build import built
+from .facts import CHANGES, MNEMONICS
 from .folding import short_event
 from .listing import Source, source_of
 from .ports import LASTING, REGISTERS, command_name, port_name
@@ -23,7 +24,9 @@ or as `build` takes it. The instructions are those of the program's own `trace P
 
 # How many bursts back the last word of a port is searched for.
 MOST_BURSTS_BACK = 256
-COMPARED = {"BEQ": "=", "BNE": "!=", "BLT": "<"}
+# What a fault changes, in the words of a line.
+CHANGED = {"register": "r{}", "memory": "[{}]", "text": "the text at {}"}
+COMPARED = {name: mnemonic.compares for name, mnemonic in MNEMONICS.items() if mnemonic.compares}
 # The last column at which the source begins; an instruction with a longer text moves its own source.
 MOST_WIDE = 72
 
@@ -121,14 +124,10 @@ def refused_text(executed: Executed) -> str:
 def strike_text(text: str) -> str:
     """Describes a fault of a trace."""
     kind, *words = text.split(" ")
+    if kind not in CHANGES:
+        return text
     refused = ", refused: nothing is changed" if words[-1:] == ["refused"] else ""
-    if kind == "reg":
-        return f"r{words[0]} = {words[1]}"
-    if kind == "poke":
-        return f"[{words[0]}] = {words[1]}{refused}"
-    if kind == "code":
-        return f"the text at {words[0]} = {words[1]}{refused}"
-    return kind
+    return f"{CHANGED[CHANGES[kind]].format(words[0])} = {words[1]}{refused}"
 
 
 def out_text(executed: Executed, kind: str) -> str:

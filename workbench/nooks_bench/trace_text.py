@@ -5,6 +5,7 @@ from __future__ import annotations
 import re
 from dataclasses import dataclass, field
 
+from .facts import CHANGES
 from .program import Mistake
 
 HEAD = re.compile(r"trace (\d+) (\w+) burst (\d+) context (\d+) call (\d+)")
@@ -14,7 +15,15 @@ SET = re.compile(r"r(\d+) (\d+)")
 STORED = re.compile(r"\[(\d+)\] (\d+)")
 GOTO = re.compile(r"goto (\d+)")
 FAULT = re.compile(r"fault (\d+) (.+)")
-REG_FAULT = re.compile(r"reg (\d+) (\d+)")
+
+
+def fault_of(*changed: str) -> re.Pattern[str]:
+    """The line of a fault that changes one of these."""
+    kinds = "|".join(kind for kind, each in CHANGES.items() if each in changed)
+    return re.compile(rf"(?:{kinds}) (\d+) (\d+)")
+
+
+REGISTER_FAULT, WORD_FAULT = fault_of("register"), fault_of("memory", "text")
 
 
 @dataclass(frozen=True)
@@ -111,7 +120,7 @@ def parse_trace(text: str) -> Trace:
             trace.end = line
         elif found := FAULT.fullmatch(line):
             trace.items.append(Struck(int(found[1]), found[2]))
-            if match := REG_FAULT.fullmatch(found[2]):
+            if match := REGISTER_FAULT.fullmatch(found[2]):
                 now[int(match[1])] = int(match[2])
         else:
             trace.items.append(executed_of(line, now))

@@ -7,13 +7,14 @@ from __future__ import annotations
 
 from dataclasses import dataclass
 
+from .facts import CHANGES, FAULT_KINDS, STOPS
 from .program import Mistake
 from .report import Event, Part, Report
 from .scenario import Fault, Scenario
 from .words import counted
 
-# The causes in a report of the trap and the hang of a scenario.
-STOPPED_BY = {"trap injected": "trap", "trap hang": "hang"}
+# The kind of fault by the cause that a report has for it.
+STOPPED_BY = {cause: kind for kind, cause in STOPS.items()}
 
 
 @dataclass(frozen=True)
@@ -39,11 +40,9 @@ class Strike:
 
 def strikes_text(fault: Fault) -> str:
     """Describes what strikes, without the burst and the instruction."""
-    if fault["kind"] == "reg":
-        return f"reg r{fault['register']} = {fault['value']}"
-    if fault["kind"] in ("poke", "code"):
-        return f"{fault['kind']} {fault['address']} = {fault['value']}"
-    return str(fault["kind"])
+    kind = str(fault["kind"])
+    numbers = [str(fault[key]) for key in FAULT_KINDS.get(kind, ())]
+    return f"{kind} {'r' if CHANGES.get(kind) == 'register' else ''}{' = '.join(numbers)}".rstrip()
 
 
 def ended_by(event: Event, faults: list[Fault]) -> int | None:

@@ -6,6 +6,7 @@ import contextlib
 import io
 import json
 import os
+import signal
 import sys
 import tempfile
 from typing import Any
@@ -20,6 +21,9 @@ from nooks_bench.program import TOP, Program, find_program  # noqa: E402
 SCHEMAS = os.path.join(TOP, "workbench/nooks_bench/schemas")
 DATA = os.path.join(HERE, "data")
 EXAMPLES = os.path.join(TOP, "examples")
+
+# A shell that starts the tests in the background has them ignore Ctrl-C, and what they start would ignore it too.
+signal.signal(signal.SIGINT, signal.default_int_handler)
 
 
 def program() -> Program:

@@ -110,7 +110,7 @@ class EveryOrder(unittest.TestCase):
         self.assertIn("1 p0 data [0,0,0,0,0,0,0,0,0,0,0,0,0,0,0,0]\n2 p0 data [58,58,", read)
 
     def test_no_order_breaks(self):
-        status, out, _ = schedules("read-ahead-mended", "--fail-on", "cut")
+        status, out, _ = schedules("read-ahead-fixed", "--fail-on", "cut")
         self.assertEqual(status, 0)
         self.assertTrue(out.endswith("\nno order breaks a contract or gives a part up\n"))
         self.assertNotIn("schedule", out)

@@ -9,7 +9,7 @@ from tempfile import TemporaryDirectory
 
 from common import TOP, program
 
-from nooks_bench import asm_faults, engines, facts, heatmap_svg, ports, refused, times, words
+from nooks_bench import asm_faults, engines, facts, heatmap_svg, inject_code, inject_mutants, ports, refused, report, times, trace, words
 from nooks_bench.outcomes import COUNTED
 
 
@@ -64,6 +64,11 @@ class EachAndNoOther(unittest.TestCase):
         for letters in (times.STAGES, times.ACTS, times.STRIKES):
             self.assertEqual(len(set(letters.values())), len(letters))
 
+    def test_lines_of_a_report(self):
+        self.assertEqual(facts.WORDS["ending"], ("tap", "status"))
+        self.assertEqual(report.LEFT, {"object", "disk", "wire", "played"})
+        self.assertLessEqual({*report.LEFT, *report.LOSSES, "config", "failures", "contract"}, set(facts.WORDS["closing"]))
+
     def test_losses(self):
         self.assertEqual(set(times.LOSSES), set(COUNTED))
 
@@ -72,8 +77,24 @@ class EachAndNoOther(unittest.TestCase):
         self.assertEqual({*refused.FINDERS, "bad_asm"}, of_scenarios)
         self.assertEqual(tuple(asm_faults.FINDERS), tuple(facts.ASM_FAULTS.values()))
 
-    def test_instructions_and_ports(self):
-        self.assertLessEqual(set(heatmap_svg.KINDS), set(facts.OPERANDS))
+    def test_instructions(self):
+        self.assertEqual({mnemonic.group for mnemonic in facts.MNEMONICS.values()}, set(facts.GROUPS))
+        self.assertLessEqual(set(heatmap_svg.GROUP_FILLS), set(facts.GROUPS))
+        ends = {name for name, mnemonic in facts.MNEMONICS.items() if not mnemonic.next}
+        self.assertLessEqual({"JMP", "JR", "RET", "FAULT"}, ends)
+        self.assertFalse({"BEQ", "JAL", "KCALL", "OUT", "LD"} & ends)
+        self.assertEqual(inject_code.ROLES["ST"], (inject_code.SOURCE, inject_code.POINTER, inject_code.NUMBER))
+        self.assertEqual(inject_code.ROLES["JAL"], (inject_code.DESTINATION, inject_code.TARGET))
+        self.assertLessEqual({"LI", "ADDI", "LD", "ST"}, set(inject_mutants.COUNTING))
+        self.assertFalse({"LUI", "ADD", "BEQ", "IN", "KCALL"} & set(inject_mutants.COUNTING))
+        self.assertLessEqual({"BEQ": "=", "BNE": "!=", "BLT": "<"}.items(), trace.COMPARED.items())
+
+    def test_faults_stop_the_driver_or_change_something(self):
+        self.assertLessEqual({"trap": "trap injected", "hang": "trap hang"}.items(), facts.STOPS.items())
+        self.assertLessEqual({"poke": "memory", "code": "text", "reg": "register"}.items(), facts.CHANGES.items())
+        self.assertLessEqual(set(facts.CHANGES.values()), set(trace.CHANGED))
+
+    def test_ports(self):
         self.assertEqual(set(facts.PORTS), {*facts.CLASSES, "registers"})
         for kind, named in ports.PORTS.items():
             there = {(way, port) for way, numbers in facts.PORTS[kind].items() for port in numbers}

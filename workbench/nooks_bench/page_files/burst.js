@@ -25,7 +25,7 @@ export class BurstView {
     const button = (text, label, move) => element("button", { type: "button", title: label, "aria-label": label, onclick: () => go(this.turn + move) }, text);
     this.whole = element("div", { class: "burst-whole" },
       element("div", { class: "bar turn-bar" }, button("\u25b2", "one instruction back (arrow up)", -1), button("\u25bc", "one instruction forward (arrow down)", 1), this.slider, this.where),
-      this.said, element("div", { class: "row item heads" }, ...[["turn", "number"], ["line", "number"], ["the driver's text", "instruction"], ["what it does", "effect"]].map(([text, kind]) => element("span", { class: `cell ${kind}` }, text))),
+      this.said, element("div", { class: "row item heads" }, ...[["instr.", "number"], ["line", "number"], ["the driver's text", "instruction"], ["what it does", "effect"]].map(([text, kind]) => element("span", { class: `cell ${kind}` }, text))),
       this.items.holder,
       element("div", { class: "below" },
         element("div", {}, element("h4", {}, "Registers after this instruction"), this.registers),

@@ -3,6 +3,7 @@ pub mod Views
 pub mod Reading
 pub mod ImageReading
 pub mod PartReading
+pub mod ScheduleNames
 pub mod ScenarioReading
 pub mod CampaignReading
 pub mod PlanReading

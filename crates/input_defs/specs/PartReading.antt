@@ -4,17 +4,18 @@ use Rattle.serde_json.specs.Data.{Data}
 use Rattle.nook_data.specs.declared.limits.TheConstants.{MOST_ARRIVALS, MOST_BAD_BLOCKS, MOST_DISK_BLOCKS}
 use Rattle.nook_data.specs.declared.limits.TheConstants.{MOST_FAILURES, MOST_FAULTS, MOST_FRAME_WORDS, MOST_INSTRUCTIONS}
 use Rattle.input_defs.specs.ImageReading.{known_class, driver_of}
-use Rattle.nook_data.specs.Names.{is_name, value_named}
+use Rattle.nook_data.specs.Names.{is_name}
 use Rattle.input_defs.specs.Reading.{word_at}
 use Rattle.input_defs.specs.Reading.{whole_number, bad, text_of, named_of, is_object, object_with, required, optional}
 use Rattle.input_defs.specs.Reading.{number_at, list_of, numbers_of}
 use Rattle.asm_defs.specs.Results.{◌>>=◌}
 use Rattle.nook_data.specs.Types.{BadBlock, Class, Fault}
-use Rattle.nook_data.specs.Types.{FaultKind, PartSpec}
-use Rattle.input_defs.specs.Types.{FaultName, Refusal}
+use Rattle.nook_data.specs.Types.{FaultKind, FaultName, PartSpec}
+use Rattle.nook_data.specs.FaultNames.{fault_named}
+use Rattle.input_defs.specs.Types.{Refusal}
 use Rattle.asm_defs.specs.Types.{Key}
 use Rattle.nook_data.specs.declared.classes.Class.TheVariants as class
-use Rattle.input_defs.specs.declared.input.FaultName.TheVariants as named
+use Rattle.nook_data.specs.declared.scenario.FaultName.TheVariants as named
 use Rattle.input_defs.specs.declared.input.InputFault.TheVariants as fault
 use Rattle.asm_defs.specs.declared.keys.Key.TheVariants as key
 use Rattle.nook_data.specs.declared.scenario.FaultKind.TheVariants as strikes
@@ -31,12 +32,6 @@ abbrev pub name_of : List (List ℕ) → Data → Result (List ℕ) Refusal
 name_of earlier d = text_of d >>= new_name earlier
 
 -- ---- faults
-
--- the kind of fault that a name denotes
-unfoldable pub fault_named : List ℕ → Option FaultName
-fault_named name = value_named (
-    (codes "trap", named.Trap) ∷ (codes "hang", named.Hang) ∷ (codes "poke", named.Poke) ∷ (codes "code", named.Code)
-    ∷ (codes "reg", named.Reg) ∷ []) name
 
 -- the keys that only some kinds of fault have
 abbrev pub fault_keys : FaultName → List Key

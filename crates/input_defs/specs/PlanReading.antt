@@ -3,7 +3,8 @@ use Rattle.std.specs.Prelude.{List, [], ◌∷◌, length, Option, Some, None, R
 use Rattle.serde_json.specs.{Data.{Data}, Find.{as_bool, get}}
 use Rattle.nook_data.specs.Members.{faults_at}
 use Rattle.input_defs.specs.CampaignReading.{check_ops, member_faults_of}
-use Rattle.input_defs.specs.PartReading.{fault_keys, fault_kind, fault_named, fault_of}
+use Rattle.nook_data.specs.FaultNames.{fault_named}
+use Rattle.input_defs.specs.PartReading.{fault_keys, fault_kind, fault_of}
 use Rattle.input_defs.specs.Reading.{bad, is_object, json_of, list_of, named_of, number_at, object_with, optional, or_bad}
 use Rattle.input_defs.specs.Reading.{refuse_if, required, under}
 use Rattle.asm_defs.specs.Keys.{key_text}

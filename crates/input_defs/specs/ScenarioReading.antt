@@ -1,28 +1,25 @@
 use Rattle.std.specs.Prelude.{ℕ, ◌-◌, List, [], ◌∷◌, length, codes, Option, Result, Ok}
 use Rattle.serde_json.specs.Data.{Data}
 use Rattle.nook_data.specs.declared.limits.TheConstants.{MOST_OPS, MOST_PARTS, MOST_THREADS}
-use Rattle.nook_data.specs.Names.{value_named}
 use Rattle.input_defs.specs.PartReading.{name_of, part_of}
 use Rattle.input_defs.specs.Reading.{word_at, named_of, is_object}
+use Rattle.input_defs.specs.ScheduleNames.{schedule_named}
 use Rattle.input_defs.specs.Reading.{object_with, required, optional, number_at, list_of, numbers_of, json_of}
 use Rattle.asm_defs.specs.Results.{◌>>=◌}
 use Rattle.asm_defs.specs.Types.{Key}
 use Rattle.nook_data.specs.Types.{Op, Scenario, ScheduleSpec}
-use Rattle.input_defs.specs.Types.{OpName, Refusal, ScheduleName}
+use Rattle.nook_data.specs.OpNames.{op_named}
+use Rattle.nook_data.specs.Types.{OpName}
+use Rattle.input_defs.specs.Types.{Refusal, ScheduleName}
 use Rattle.nook_data.specs.Types.{ThreadSpec}
 use Rattle.nook_data.specs.declared.calls.Op.TheVariants as op
 use Rattle.asm_defs.specs.declared.keys.Key.TheVariants as key
-use Rattle.input_defs.specs.declared.input.OpName.TheVariants as asks
-use Rattle.input_defs.specs.declared.input.ScheduleName.TheVariants as named
+use Rattle.nook_data.specs.declared.calls.OpName.TheVariants as asks
+use Rattle.input_defs.specs.declared.schedules.ScheduleName.TheVariants as named
 use Rattle.nook_data.specs.declared.scenario.ScheduleSpec.TheVariants as schedule
 use Rattle.nook_data.specs.Valid.{thread_names}
 
 -- ---- schedules
-
--- the kind of schedule that a name denotes
-unfoldable pub schedule_named : List ℕ → Option ScheduleName
-schedule_named name = value_named (
-    (codes "round_robin", named.RoundRobin) ∷ (codes "drawn", named.Drawn) ∷ (codes "listed", named.Listed) ∷ []) name
 
 -- the keys of a kind of schedule
 abbrev pub schedule_keys : ScheduleName → List Key
@@ -45,13 +42,6 @@ schedule_of d = do
   schedule_by name d
 
 -- ---- operations
-
--- the operation that a name denotes
-unfoldable pub op_named : List ℕ → Option OpName
-op_named name = value_named (
-    (codes "read", asks.Read) ∷ (codes "write", asks.Write) ∷ (codes "send", asks.Send) ∷ (codes "recv", asks.Recv)
-    ∷ (codes "open", asks.Open) ∷ (codes "play", asks.Play) ∷ (codes "close", asks.Close) ∷ (codes "get", asks.Get)
-    ∷ (codes "set", asks.Set) ∷ []) name
 
 -- the keys that only some operations have
 abbrev pub op_keys : OpName → List Key

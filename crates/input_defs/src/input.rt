@@ -29,38 +29,6 @@ pub enum InputFault {
     DoubleName,
 }
 
-/// The names of the kinds of fault.
-#[derive(Clone, Copy)]
-pub enum FaultName {
-    Trap,
-    Hang,
-    Poke,
-    Code,
-    Reg,
-}
-
-/// The names of the kinds of schedule.
-#[derive(Clone, Copy)]
-pub enum ScheduleName {
-    RoundRobin,
-    Drawn,
-    Listed,
-}
-
-/// The names of the operations.
-#[derive(Clone, Copy)]
-pub enum OpName {
-    Read,
-    Write,
-    Send,
-    Recv,
-    Open,
-    Play,
-    Close,
-    Get,
-    Set,
-}
-
 /// A step from an object or a list to something inside it. Indexes count from 0.
 #[derive(Clone, Copy, PartialEq, Eq)]
 pub enum PathStep {

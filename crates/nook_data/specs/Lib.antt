@@ -3,6 +3,8 @@ pub mod Views
 pub mod Names
 pub mod Classes
 pub mod ClassNames
+pub mod FaultNames
+pub mod OpNames
 pub mod Clauses
 pub mod Answers
 pub mod Frames

@@ -1,5 +1,8 @@
 //! What applications ask of a part, and the answers that they get.
 
+ghost use Rattle.std.specs.Prelude.{◌≡◌};
+ghost use Rattle.nook_data.specs.OpNames.{op_name, op_named, op_word};
+
 use crate::lists::{Items, Words};
 use crate::steps::Stage;
 
@@ -24,6 +27,78 @@ pub enum Op {
     Get { key: u32 },
     /// Sets a configuration word to a value.
     Set { key: u32, value: u32 },
+}
+
+/// The names of the operations.
+#[derive(Clone, Copy, Debug, PartialEq, Eq)]
+pub enum OpName {
+    Read,
+    Write,
+    Send,
+    Recv,
+    Open,
+    Play,
+    Close,
+    Get,
+    Set,
+}
+
+/// The name of an operation.
+pub fn op_name(op: &Op) -> OpName
+    ensures { result ≡ op_name op.now }
+{
+    match op {
+        Op::Read { .. } => OpName::Read,
+        Op::Write { .. } => OpName::Write,
+        Op::Send { .. } => OpName::Send,
+        Op::Recv => OpName::Recv,
+        Op::Open => OpName::Open,
+        Op::Play { .. } => OpName::Play,
+        Op::Close => OpName::Close,
+        Op::Get { .. } => OpName::Get,
+        Op::Set { .. } => OpName::Set,
+    }
+}
+
+/// The word for an operation, in inputs and reports.
+pub fn op_word(name: OpName) -> &'static str
+    ensures { result.now ≡ op_word name }
+{
+    match name {
+        OpName::Read => "read",
+        OpName::Write => "write",
+        OpName::Send => "send",
+        OpName::Recv => "recv",
+        OpName::Open => "open",
+        OpName::Play => "play",
+        OpName::Close => "close",
+        OpName::Get => "get",
+        OpName::Set => "set",
+    }
+}
+
+/// The operation with a word.
+#[tactic(auto, unfolding(crate::specs::OpNames::op_named))]
+pub fn op_named(word: &str) -> Option<OpName>
+    ensures { result ≡ op_named word.now }
+{
+    let names = [
+        OpName::Read,
+        OpName::Write,
+        OpName::Send,
+        OpName::Recv,
+        OpName::Open,
+        OpName::Play,
+        OpName::Close,
+        OpName::Get,
+        OpName::Set,
+    ];
+    for index in 0..names.len() {
+        if word == op_word(names[index]) {
+            return Some(names[index]);
+        }
+    }
+    None
 }
 
 /// The answer that an application gets.

@@ -72,10 +72,13 @@ pub fn class_text(class: Class) -> &'static str
 pub fn class_named(name: &[u8]) -> Option<Class>
     ensures { result ≡ class_named name.now }
 {
-    match name {
-        b"block" => Some(Class::Block),
-        b"net" => Some(Class::Net),
-        b"sound" => Some(Class::Sound),
-        _ => None,
+    if name == class_text(Class::Block).as_bytes() {
+        Some(Class::Block)
+    } else if name == class_text(Class::Net).as_bytes() {
+        Some(Class::Net)
+    } else if name == class_text(Class::Sound).as_bytes() {
+        Some(Class::Sound)
+    } else {
+        None
     }
 }

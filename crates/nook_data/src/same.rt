@@ -8,7 +8,7 @@ use crate::entries::Entry;
 use crate::lists::{Items, Word};
 use crate::machine::{Act, Context, Cpu};
 use crate::name::Name;
-use crate::scenario::{BadBlock, Fault, FaultKind, Image, PartSpec};
+use crate::scenario::{BadBlock, Fault, Image, PartSpec};
 use crate::steps::{Mode, Stage};
 
 /// A comparison of whole values.
@@ -270,37 +270,6 @@ impl Same for Entry {
 impl Same for BadBlock {
     fn is_same(&self, other: &BadBlock) -> bool {
         self.block == other.block && self.after == other.after
-    }
-}
-
-impl Same for FaultKind {
-    fn is_same(&self, other: &FaultKind) -> bool {
-        match (self, other) {
-            (FaultKind::Trap, FaultKind::Trap) => true,
-            (FaultKind::Hang, FaultKind::Hang) => true,
-            (
-                FaultKind::Poke { address, value },
-                FaultKind::Poke {
-                    address: other,
-                    value: word,
-                },
-            ) => { address == other && value == word }
-            (
-                FaultKind::Code { address, value },
-                FaultKind::Code {
-                    address: other,
-                    value: word,
-                },
-            ) => { address == other && value == word }
-            (
-                FaultKind::Reg { register, value },
-                FaultKind::Reg {
-                    register: other,
-                    value: word,
-                },
-            ) => { register == other && value == word }
-            _ => false,
-        }
     }
 }
 

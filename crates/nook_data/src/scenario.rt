@@ -1,9 +1,13 @@
 //! What a scenario consists of: its parts with their drivers and faults, its threads, and its schedule.
 
+ghost use Rattle.std.specs.Prelude.{◌≡◌};
+ghost use Rattle.nook_data.specs.FaultNames.{fault_name, fault_named, fault_word};
+
 use crate::calls::PartOps;
 use crate::classes::Class;
 use crate::lists::{Frames, Items, Picks, Words};
 use crate::name::Name;
+use crate::same::Same;
 
 /// What an injected fault does.
 #[derive(Clone, Copy)]
@@ -18,6 +22,93 @@ pub enum FaultKind {
     Code { address: u32, value: u32 },
     /// A register is set if its number is 0 to 15; otherwise nothing happens.
     Reg { register: u8, value: u32 },
+}
+
+/// The names of the kinds of fault.
+#[derive(Clone, Copy, Debug, PartialEq, Eq)]
+pub enum FaultName {
+    Trap,
+    Hang,
+    Poke,
+    Code,
+    Reg,
+}
+
+/// The kind of a fault by its name.
+pub fn fault_name(kind: FaultKind) -> FaultName
+    ensures { result ≡ fault_name kind }
+{
+    match kind {
+        FaultKind::Trap => FaultName::Trap,
+        FaultKind::Hang => FaultName::Hang,
+        FaultKind::Poke { .. } => FaultName::Poke,
+        FaultKind::Code { .. } => FaultName::Code,
+        FaultKind::Reg { .. } => FaultName::Reg,
+    }
+}
+
+/// The word for a kind of fault, in inputs and traces.
+pub fn fault_word(name: FaultName) -> &'static str
+    ensures { result.now ≡ fault_word name }
+{
+    match name {
+        FaultName::Trap => "trap",
+        FaultName::Hang => "hang",
+        FaultName::Poke => "poke",
+        FaultName::Code => "code",
+        FaultName::Reg => "reg",
+    }
+}
+
+/// The kind of fault with a word.
+#[tactic(auto, unfolding(crate::specs::FaultNames::fault_named))]
+pub fn fault_named(word: &str) -> Option<FaultName>
+    ensures { result ≡ fault_named word.now }
+{
+    let names = [
+        FaultName::Trap,
+        FaultName::Hang,
+        FaultName::Poke,
+        FaultName::Code,
+        FaultName::Reg,
+    ];
+    for index in 0..names.len() {
+        if word == fault_word(names[index]) {
+            return Some(names[index]);
+        }
+    }
+    None
+}
+
+impl Same for FaultKind {
+    fn is_same(&self, other: &FaultKind) -> bool {
+        match (self, other) {
+            (FaultKind::Trap, FaultKind::Trap) => true,
+            (FaultKind::Hang, FaultKind::Hang) => true,
+            (
+                FaultKind::Poke { address, value },
+                FaultKind::Poke {
+                    address: other,
+                    value: word,
+                },
+            ) => { address == other && value == word }
+            (
+                FaultKind::Code { address, value },
+                FaultKind::Code {
+                    address: other,
+                    value: word,
+                },
+            ) => { address == other && value == word }
+            (
+                FaultKind::Reg { register, value },
+                FaultKind::Reg {
+                    register: other,
+                    value: word,
+                },
+            ) => { register == other && value == word }
+            _ => false,
+        }
+    }
 }
 
 /// A fault that strikes in burst `burst`, before its instruction number `after + 1`.

@@ -12,7 +12,8 @@ use Rattle.input_defs.specs.Views.Readings.{asm_of, driver_image}
 use Rattle.asm_defs.specs.Keys.{key_text}
 use Rattle.nook_data.specs.Names.{is_name}
 use Rattle.nook_data.specs.Names.{is_among}
-use Rattle.input_defs.specs.PartReading.{name_of, fault_named, fault_keys, fault_kind, fault_of, bad_block_of}
+use Rattle.nook_data.specs.FaultNames.{fault_named}
+use Rattle.input_defs.specs.PartReading.{name_of, fault_keys, fault_kind, fault_of, bad_block_of}
 use Rattle.input_defs.specs.PartReading.{part_blocks, part_bad, part_arrivals, part_keys, part_of}
 use Rattle.nook_data.specs.Valid.{part_names}
 use Rattle.input_defs.specs.Views.Readings.{faults_of, bad_blocks_of, frame_of, frames_of}
@@ -32,8 +33,8 @@ use Rattle.nook_data.specs.declared.scenario.FaultKind.{FaultKind}
 use Rattle.nook_data.specs.declared.scenario.FaultKind.TheVariants as strikes
 use Rattle.nook_data.specs.declared.scenario.Image.{Image}
 use Rattle.nook_data.specs.declared.scenario.PartSpec.{PartSpec}
-use Rattle.input_defs.specs.declared.input.FaultName.{FaultName}
-use Rattle.input_defs.specs.declared.input.FaultName.TheVariants as named
+use Rattle.nook_data.specs.declared.scenario.FaultName.{FaultName}
+use Rattle.nook_data.specs.declared.scenario.FaultName.TheVariants as named
 use Rattle.input_defs.specs.declared.input.InputFault.TheVariants as fault
 use Rattle.asm_defs.specs.declared.keys.Key.TheVariants as key
 use Rattle.input_defs.specs.declared.input.PathStep.TheVariants as step

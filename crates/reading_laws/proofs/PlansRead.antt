@@ -6,7 +6,8 @@ use Rattle.serde_json.specs.Find.{get}
 use Rattle.asm_defs.specs.Keys.{key_text}
 use Rattle.asm_defs.specs.Results.{◌>>=◌}
 use Rattle.input_defs.specs.CampaignReading.{check_ops, member_faults_of}
-use Rattle.input_defs.specs.PartReading.{fault_keys, fault_kind, fault_named, fault_of}
+use Rattle.nook_data.specs.FaultNames.{fault_named}
+use Rattle.input_defs.specs.PartReading.{fault_keys, fault_kind, fault_of}
 use Rattle.input_defs.specs.PlanReading.{check_base, check_choice, check_count, check_guard, check_traps, flag_of, has_key}
 use Rattle.input_defs.specs.PlanReading.{kind_of, kinds_of, member_lists_of, member_of, plan_from, plan_of, strikes_of}
 use Rattle.input_defs.specs.Reading.{is_object, json_of, named_of, number_at, object_with, optional, refuse_if, required, under}
@@ -21,7 +22,7 @@ use Rattle.plan_defs.specs.Plans.{AreValidStrikes, HaveRoom, IsValidMember, IsVa
 use Rattle.plan_defs.specs.declared.plan.Plan.{Plan}
 use Rattle.plan_defs.specs.declared.plan.Strikes.{Strikes}
 use Rattle.plan_defs.specs.declared.plan.Strikes.TheVariants as strikes
-use Rattle.input_defs.specs.declared.input.FaultName.{FaultName}
+use Rattle.nook_data.specs.declared.scenario.FaultName.{FaultName}
 use Rattle.input_defs.specs.declared.input.InputFault.TheVariants as fault
 use Rattle.asm_defs.specs.declared.keys.Key.TheVariants as key
 use Rattle.input_defs.specs.declared.input.PathStep.TheVariants as step

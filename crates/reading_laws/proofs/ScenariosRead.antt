@@ -9,7 +9,9 @@ use Rattle.nook_data.specs.Valid.{part_names}
 use Rattle.input_defs.specs.Reading.{is_object, json_of, named_of, object_with, required, optional, whole_number}
 use Rattle.input_defs.specs.Reading.{number_at, list_of, numbers_of}
 use Rattle.asm_defs.specs.Results.{◌>>=◌}
-use Rattle.input_defs.specs.ScenarioReading.{schedule_named, schedule_keys, schedule_by, schedule_of, op_named, op_keys}
+use Rattle.nook_data.specs.OpNames.{op_named}
+use Rattle.input_defs.specs.ScenarioReading.{schedule_keys, schedule_by, schedule_of, op_keys}
+use Rattle.input_defs.specs.ScheduleNames.{schedule_named}
 use Rattle.input_defs.specs.ScenarioReading.{op_words_of, op_by, op_of, thread_of, scenario_of, scenario_from}
 use Rattle.nook_data.specs.Valid.{thread_names}
 use Rattle.input_defs.specs.Reading.{word_at}
@@ -27,11 +29,11 @@ use Rattle.nook_data.specs.declared.scenario.ScheduleSpec.TheVariants as schedul
 use Rattle.nook_data.specs.declared.scenario.ThreadSpec.{ThreadSpec}
 use Rattle.asm_defs.specs.declared.keys.Key.{Key}
 use Rattle.asm_defs.specs.declared.keys.Key.TheVariants as key
-use Rattle.input_defs.specs.declared.input.OpName.{OpName}
-use Rattle.input_defs.specs.declared.input.OpName.TheVariants as asks
+use Rattle.nook_data.specs.declared.calls.OpName.{OpName}
+use Rattle.nook_data.specs.declared.calls.OpName.TheVariants as asks
 use Rattle.input_defs.specs.declared.input.Refusal.{Refusal}
-use Rattle.input_defs.specs.declared.input.ScheduleName.{ScheduleName}
-use Rattle.input_defs.specs.declared.input.ScheduleName.TheVariants as named
+use Rattle.input_defs.specs.declared.schedules.ScheduleName.{ScheduleName}
+use Rattle.input_defs.specs.declared.schedules.ScheduleName.TheVariants as named
 use Rattle.reading_laws.proofs.Names.{IsNewName, name_holds, distinct_push}
 use Rattle.reading_laws.proofs.PartsRead.{ArePartsRead, numbers_hold, parts_hold, word_at_holds}
 use Rattle.reading_laws.proofs.Readings.{chained, passed, less, required_holds, optional_holds, number_holds, number_at_holds, IsBetween, Listed, list_holds, each_holds}

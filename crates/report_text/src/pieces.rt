@@ -10,7 +10,7 @@ ghost use Rattle.report_defs.specs.Views.Reporting.{released_tail, right_text, w
 ghost use Rattle.report_text.specs.Mirrored.{mirror_answer_text};
 
 use crate::line::Line;
-use nook_data::calls::{Answer, Op};
+use nook_data::calls::{Answer, Op, op_name, op_word};
 use nook_data::classes::{Class, class_text};
 use nook_data::entries::Entry;
 use nook_data::lists::Words;
@@ -71,19 +71,18 @@ pub fn push_class(line: &mut Line, class: Class) -> Result<(), NoMemory>
 pub fn push_op(line: &mut Line, op: &Op) -> Result<(), NoMemory>
     ensures { OnOk result (line.new ≡ line.old ++ op_text op.now) }
 {
+    line.push(op_word(op_name(op)))?;
     match op {
-        Op::Read { first, count } => push_pair(line, "read ", *first, *count),
+        Op::Read { first, count } => push_pair(line, " ", *first, *count),
         Op::Write { first, words } => {
-            push_number(line, "write ", u64::from(*first))?;
+            push_number(line, " ", u64::from(*first))?;
             push_list(line, " ", words)
         }
-        Op::Send { frame } => push_list(line, "send ", frame),
-        Op::Recv => line.push("recv"),
-        Op::Open => line.push("open"),
-        Op::Play { samples } => push_list(line, "play ", samples),
-        Op::Close => line.push("close"),
-        Op::Get { key } => push_number(line, "get ", u64::from(*key)),
-        Op::Set { key, value } => push_pair(line, "set ", *key, *value),
+        Op::Send { frame } => push_list(line, " ", frame),
+        Op::Recv | Op::Open | Op::Close => Ok(()),
+        Op::Play { samples } => push_list(line, " ", samples),
+        Op::Get { key } => push_number(line, " ", u64::from(*key)),
+        Op::Set { key, value } => push_pair(line, " ", *key, *value),
     }
 }
 

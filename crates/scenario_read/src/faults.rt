@@ -4,8 +4,9 @@ ghost use Rattle.std.specs.Prelude.{◌≡◌, ◌∷◌};
 ghost use Rattle.serde_json.specs.View.{view};
 ghost use Rattle.input_defs.specs.CampaignReading.{member_faults_of};
 ghost use Rattle.input_defs.specs.Reading.{named_of, required};
-ghost use Rattle.input_defs.specs.PartReading.{bad_block_of, fault_keys, fault_kind, fault_named, fault_of};
+ghost use Rattle.input_defs.specs.PartReading.{bad_block_of, fault_keys, fault_kind, fault_of};
 ghost use Rattle.input_defs.specs.Views.Readings.{bad_blocks_of, faults_of};
+ghost use Rattle.nook_data.specs.FaultNames.{fault_named};
 ghost use Rattle.asm_defs.specs.declared.keys.Key.TheVariants as key;
 ghost use Rattle.scenario_read.specs.Gives.{Gives};
 
@@ -13,9 +14,9 @@ use crate::fields::{check_keys, check_object, field, number_at, word_at};
 use crate::lists::{ItemReader, read_list};
 use crate::stop::{ScenarioFault, at, bad_here};
 use asm_defs::keys::Key;
-use input_defs::input::{FaultName, InputFault};
+use input_defs::input::InputFault;
 use nook_data::limits::{MOST_BAD_BLOCKS, MOST_CAMPAIGN_FAULTS, MOST_FAULTS, MOST_INSTRUCTIONS};
-use nook_data::scenario::{BadBlock, BadBlocks, Fault, FaultKind, Faults};
+use nook_data::scenario::{BadBlock, BadBlocks, Fault, FaultKind, FaultName, Faults, fault_named};
 use serde_json::Value;
 use std::alloc::Global;
 
@@ -91,11 +92,7 @@ fn fault_keys(name: FaultName) -> &'static [Key]
 pub fn kind_keys(name: FaultName) -> &'static [Key]
     ensures { result.now ≡ key.Kind ∷ fault_keys name }
 {
-    match name {
-        FaultName::Trap | FaultName::Hang => &[Key::Kind],
-        FaultName::Poke | FaultName::Code => &[Key::Kind, Key::Address, Key::Value],
-        FaultName::Reg => &[Key::Kind, Key::Register, Key::Value],
-    }
+    &fault_keys(name)[2..]
 }
 
 /// The name of a kind of fault.
@@ -105,21 +102,6 @@ pub fn fault_name(alloc: Global, value: &Value) -> Result<FaultName, ScenarioFau
     match value.as_str().and_then(fault_named) {
         None => bad_here(alloc, InputFault::WrongKind),
         Some(name) => Ok(name),
-    }
-}
-
-/// The kind of fault that a name denotes.
-#[tactic(auto, unfolding(input_defs::specs::PartReading::fault_named))]
-fn fault_named(name: &str) -> Option<FaultName>
-    ensures { result ≡ fault_named name.now }
-{
-    match name {
-        "trap" => Some(FaultName::Trap),
-        "hang" => Some(FaultName::Hang),
-        "poke" => Some(FaultName::Poke),
-        "code" => Some(FaultName::Code),
-        "reg" => Some(FaultName::Reg),
-        _ => None,
     }
 }
 

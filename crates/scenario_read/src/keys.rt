@@ -1,12 +1,13 @@
-//! The keys of each object, and what the names in inputs denote.
+//! The keys of objects that have kinds.
 
 ghost use Rattle.std.specs.Prelude.{◌≡◌, ◌∷◌};
 ghost use Rattle.input_defs.specs.PartReading.{part_keys};
-ghost use Rattle.input_defs.specs.ScenarioReading.{schedule_named, schedule_keys, op_named, op_keys};
+ghost use Rattle.input_defs.specs.ScenarioReading.{op_keys, schedule_keys};
 ghost use Rattle.asm_defs.specs.declared.keys.Key.TheVariants as key;
 
 use asm_defs::keys::Key;
-use input_defs::input::{OpName, ScheduleName};
+use input_defs::schedules::ScheduleName;
+use nook_data::calls::OpName;
 use nook_data::classes::Class;
 
 /// The keys of a part, by its class and the scenario's version.
@@ -66,37 +67,5 @@ pub fn op_keys(name: OpName) -> &'static [Key]
         OpName::Play => &[Key::Part, Key::Op, Key::Samples],
         OpName::Get => &[Key::Part, Key::Op, Key::Key],
         OpName::Set => &[Key::Part, Key::Op, Key::Key, Key::Value],
-    }
-}
-
-/// The kind of schedule that a name denotes.
-#[tactic(auto, unfolding(input_defs::specs::ScenarioReading::schedule_named))]
-pub fn schedule_named(name: &str) -> Option<ScheduleName>
-    ensures { result ≡ schedule_named name.now }
-{
-    match name {
-        "round_robin" => Some(ScheduleName::RoundRobin),
-        "drawn" => Some(ScheduleName::Drawn),
-        "listed" => Some(ScheduleName::Listed),
-        _ => None,
-    }
-}
-
-/// The operation that a name denotes.
-#[tactic(auto, unfolding(input_defs::specs::ScenarioReading::op_named))]
-pub fn op_named(name: &str) -> Option<OpName>
-    ensures { result ≡ op_named name.now }
-{
-    match name {
-        "read" => Some(OpName::Read),
-        "write" => Some(OpName::Write),
-        "send" => Some(OpName::Send),
-        "recv" => Some(OpName::Recv),
-        "open" => Some(OpName::Open),
-        "play" => Some(OpName::Play),
-        "close" => Some(OpName::Close),
-        "get" => Some(OpName::Get),
-        "set" => Some(OpName::Set),
-        _ => None,
     }
 }

@@ -3,17 +3,18 @@
 ghost use Rattle.std.specs.Prelude.{◌≡◌};
 ghost use Rattle.serde_json.specs.View.{view};
 ghost use Rattle.input_defs.specs.Reading.{named_of};
-ghost use Rattle.input_defs.specs.ScenarioReading.{op_by, op_named, op_of, op_words_of};
+ghost use Rattle.input_defs.specs.ScenarioReading.{op_by, op_of, op_words_of};
 ghost use Rattle.input_defs.specs.Views.Readings.{ops_of};
+ghost use Rattle.nook_data.specs.OpNames.{op_named};
 ghost use Rattle.scenario_read.specs.Gives.{Gives};
 
 use crate::fields::{check_keys, check_object, field, number_at, word_at};
-use crate::keys::{op_keys, op_named};
+use crate::keys::op_keys;
 use crate::lists::{ItemReader, read_list, read_words};
 use crate::stop::{ScenarioFault, at, bad_here};
 use asm_defs::keys::Key;
-use input_defs::input::{InputFault, OpName};
-use nook_data::calls::{Op, PartOps};
+use input_defs::input::InputFault;
+use nook_data::calls::{Op, OpName, PartOps, op_named};
 use nook_data::limits::MOST_OPS;
 use nook_data::lists::Words;
 use serde_json::Value;

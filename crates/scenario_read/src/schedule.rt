@@ -3,16 +3,18 @@
 ghost use Rattle.std.specs.Prelude.{◌≡◌};
 ghost use Rattle.serde_json.specs.View.{view};
 ghost use Rattle.input_defs.specs.Reading.{named_of};
-ghost use Rattle.input_defs.specs.ScenarioReading.{schedule_by, schedule_named, schedule_of};
+ghost use Rattle.input_defs.specs.ScenarioReading.{schedule_by, schedule_of};
+ghost use Rattle.input_defs.specs.ScheduleNames.{schedule_named};
 ghost use Rattle.input_defs.specs.Views.Readings.{picks_of};
 ghost use Rattle.scenario_read.specs.Gives.{Gives};
 
 use crate::fields::{check_keys, check_object, field, number_at};
-use crate::keys::{schedule_keys, schedule_named};
+use crate::keys::schedule_keys;
 use crate::lists::{PickReader, read_list};
 use crate::stop::{ScenarioFault, at, bad_here};
 use asm_defs::keys::Key;
-use input_defs::input::{InputFault, ScheduleName};
+use input_defs::input::InputFault;
+use input_defs::schedules::{ScheduleName, schedule_named};
 use nook_data::lists::Picks;
 use nook_data::scenario::ScheduleSpec;
 use serde_json::Value;

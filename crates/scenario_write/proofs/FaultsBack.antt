@@ -1,17 +1,30 @@
 -- Faults are read back, and have only texts and unsigned numbers.
-use Rattle.std.proofs.Common.{◌≡◌, ℕ, ◌<◌, ◌≤◌, Ok, refl, arith, codes}
+use Rattle.std.proofs.Common.{◌≡◌, ℕ, ◌<◌, ◌≤◌, [], ◌∷◌, ◌++◌, Ok, refl, arith, codes}
 use Rattle.std.proofs.lemmas.Bool.{le-ltb}
-use Rattle.input_defs.specs.PartReading.{fault_kind, fault_named, fault_of}
+use Rattle.json.specs.Print.{escape_byte, quoted}
+use Rattle.nook_data.specs.FaultNames.{fault_named, fault_word}
+use Rattle.input_defs.specs.PartReading.{fault_kind, fault_of}
 use Rattle.nook_data.specs.Valid.{IsValidFault, IsValidKind, IsWord}
 use Rattle.nook_data.specs.declared.scenario.Fault.{Fault}
 use Rattle.nook_data.specs.declared.scenario.FaultKind.{FaultKind}
 use Rattle.nook_data.specs.declared.scenario.FaultKind.TheVariants as strikes
+use Rattle.nook_data.specs.declared.scenario.FaultName.{FaultName}
+use Rattle.nook_data.specs.declared.scenario.FaultName.TheVariants as fault
 use Rattle.asm_defs.specs.declared.keys.Key.TheVariants as key
 use Rattle.reading_laws.proofs.PlainData.{ArePlainMembers, IsPlain}
 use Rattle.scenario_write.specs.ScenarioText.{at, fault_data, kind_members, number_data}
 use Rattle.scenario_write.proofs.ListsBack.{no_less, word_within}
 use Rattle.scenario_write.proofs.PlainMembers.{named, text, wide, with}
 use Rattle.scenario_write.proofs.Sorted.{sorted}
+
+-- the words need no escapes
+pub fault_quoted : (name : FaultName) → quoted (fault_word name) ≡ 34 ∷ (fault_word name ++ 34 ∷ [])
+unfolding escape_byte
+fault_quoted fault.Trap = refl
+fault_quoted fault.Hang = refl
+fault_quoted fault.Poke = refl
+fault_quoted fault.Code = refl
+fault_quoted fault.Reg = refl
 
 fault_by : (burst after : ℕ) (kind : FaultKind) → 1 ≤ burst → IsWord burst → after ≤ 4095 → IsValidKind kind
     → fault_of (sorted (fault_data (record { burst = burst; after = after; kind = kind }))) ≡ Ok (record { burst = burst; after = after; kind = kind })

@@ -2,7 +2,9 @@
 use Rattle.std.proofs.Common.{◌≡◌, ℕ, ◌-◌, ◌<◌, ◌≤◌, Ok, refl, arith}
 use Rattle.std.proofs.lemmas.Bool.{le-ltb}
 use Rattle.input_defs.specs.PartReading.{bad_block_of}
-use Rattle.input_defs.specs.ScenarioReading.{op_by, op_named, op_of, schedule_by, schedule_named, schedule_of}
+use Rattle.nook_data.specs.OpNames.{op_named}
+use Rattle.input_defs.specs.ScenarioReading.{op_by, op_of, schedule_by, schedule_of}
+use Rattle.input_defs.specs.ScheduleNames.{schedule_named}
 use Rattle.nook_data.specs.Valid.{IsValidBadBlock, IsValidOp, IsValidSchedule}
 use Rattle.nook_data.specs.Views.Limits.{IsValidStep}
 use Rattle.nook_data.specs.Views.Limits.{IsPick}

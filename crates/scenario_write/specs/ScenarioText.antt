@@ -1,9 +1,12 @@
-use Rattle.std.specs.Prelude.{ℕ, ◌==◌, ◌||◌, not, List, [], ◌∷◌, ◌++◌, length, codes, Bool, false, if◌then◌else◌}
+use Rattle.std.specs.Prelude.{ℕ, ◌==◌, ◌||◌, not, List, [], ◌∷◌, ◌++◌, length, Bool, false, if◌then◌else◌}
 use Rattle.serde_json.specs.Data.{Data, string, number, array, object, unsigned, Items, no_items, item, Members}
 use Rattle.serde_json.specs.Data.{no_members, member}
 use Rattle.serde_json.specs.Written.{compact_text}
 use Rattle.asm_defs.specs.ImageText.{image_data}
 use Rattle.nook_data.specs.ClassNames.{class_text}
+use Rattle.nook_data.specs.FaultNames.{fault_name, fault_word}
+use Rattle.nook_data.specs.OpNames.{op_name, op_word}
+use Rattle.input_defs.specs.ScheduleNames.{schedule_name, schedule_word}
 use Rattle.asm_defs.specs.Keys.{key_text}
 use Rattle.nook_data.specs.declared.scenario.BadBlock.{BadBlock}
 use Rattle.nook_data.specs.declared.classes.Class.{Class}
@@ -49,13 +52,15 @@ numbers_data numbers = list_data number_data numbers
 
 -- ---- schedules
 
+-- what only schedules of a kind have
+abbrev pub schedule_details : ScheduleSpec → Members
+schedule_details schedule.RoundRobin = no_members
+schedule_details (schedule.Drawn start) = at key.Start (number_data start) no_members
+schedule_details (schedule.Listed picks) = at key.Picks (numbers_data picks) no_members
+
 -- the kind of a schedule, and what only schedules of that kind have
 abbrev pub schedule_members : ScheduleSpec → Members
-schedule_members schedule.RoundRobin = at key.Kind (string (codes "round_robin")) no_members
-schedule_members (schedule.Drawn start) =
-    at key.Kind (string (codes "drawn")) (at key.Start (number_data start) no_members)
-schedule_members (schedule.Listed picks) =
-    at key.Kind (string (codes "listed")) (at key.Picks (numbers_data picks) no_members)
+schedule_members spec = at key.Kind (string (schedule_word (schedule_name spec))) (schedule_details spec)
 
 -- a schedule
 unfoldable pub schedule_data : ScheduleSpec → Data
@@ -63,16 +68,20 @@ schedule_data spec = object (schedule_members spec)
 
 -- ---- faults and bad blocks
 
+-- what only faults of a kind have
+abbrev pub kind_details : FaultKind → Members
+kind_details strikes.Trap = no_members
+kind_details strikes.Hang = no_members
+kind_details (strikes.Poke address value) =
+    at key.Address (number_data address) (at key.Value (number_data value) no_members)
+kind_details (strikes.Code address value) =
+    at key.Address (number_data address) (at key.Value (number_data value) no_members)
+kind_details (strikes.Reg register value) =
+    at key.Register (number_data register) (at key.Value (number_data value) no_members)
+
 -- what a fault does, and the keys of its kind
 abbrev pub kind_members : FaultKind → Members
-kind_members strikes.Trap = at key.Kind (string (codes "trap")) no_members
-kind_members strikes.Hang = at key.Kind (string (codes "hang")) no_members
-kind_members (strikes.Poke address value) = at key.Kind (string (codes "poke"))
-    (at key.Address (number_data address) (at key.Value (number_data value) no_members))
-kind_members (strikes.Code address value) = at key.Kind (string (codes "code"))
-    (at key.Address (number_data address) (at key.Value (number_data value) no_members))
-kind_members (strikes.Reg register value) = at key.Kind (string (codes "reg"))
-    (at key.Register (number_data register) (at key.Value (number_data value) no_members))
+kind_members kind = at key.Kind (string (fault_word (fault_name kind))) (kind_details kind)
 
 -- a fault
 unfoldable pub fault_data : Fault → Data
@@ -124,20 +133,21 @@ part_data part = object
 
 -- ---- threads
 
+-- what only some operations have
+abbrev pub op_details : Op → Members
+op_details (op.Read first count) = at key.First (number_data first) (at key.Count (number_data count) no_members)
+op_details (op.Write first words) = at key.First (number_data first) (at key.Data (numbers_data words) no_members)
+op_details (op.Send frame) = at key.Frame (numbers_data frame) no_members
+op_details op.Recv = no_members
+op_details op.Open = no_members
+op_details (op.Play samples) = at key.Samples (numbers_data samples) no_members
+op_details op.Close = no_members
+op_details (op.Get register) = at key.Key (number_data register) no_members
+op_details (op.Set register value) = at key.Key (number_data register) (at key.Value (number_data value) no_members)
+
 -- an operation, and the keys of its kind
 abbrev pub op_members : Op → Members
-op_members (op.Read first count) =
-    at key.Op (string (codes "read")) (at key.First (number_data first) (at key.Count (number_data count) no_members))
-op_members (op.Write first words) =
-    at key.Op (string (codes "write")) (at key.First (number_data first) (at key.Data (numbers_data words) no_members))
-op_members (op.Send frame) = at key.Op (string (codes "send")) (at key.Frame (numbers_data frame) no_members)
-op_members op.Recv = at key.Op (string (codes "recv")) no_members
-op_members op.Open = at key.Op (string (codes "open")) no_members
-op_members (op.Play samples) = at key.Op (string (codes "play")) (at key.Samples (numbers_data samples) no_members)
-op_members op.Close = at key.Op (string (codes "close")) no_members
-op_members (op.Get register) = at key.Op (string (codes "get")) (at key.Key (number_data register) no_members)
-op_members (op.Set register value) =
-    at key.Op (string (codes "set")) (at key.Key (number_data register) (at key.Value (number_data value) no_members))
+op_members o = at key.Op (string (op_word (op_name o))) (op_details o)
 
 -- an operation on a part
 unfoldable pub step_data : ℕ × Op → Data

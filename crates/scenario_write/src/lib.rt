@@ -3,6 +3,7 @@
 
 mod laws;
 mod lists;
+mod members;
 mod ops;
 mod parts;
 mod scenario;

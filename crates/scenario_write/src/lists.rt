@@ -29,7 +29,7 @@ impl Written for u16 {
     ghost json = { number_data };
 
     fn push(&self, _alloc: Global, text: &mut String) -> Result<(), NoMemory> {
-        push_number(text, "", u64::from(*self))
+        push_number(text, u64::from(*self))
     }
 }
 
@@ -37,7 +37,7 @@ impl Written for Word {
     ghost json = { number_data };
 
     fn push(&self, _alloc: Global, text: &mut String) -> Result<(), NoMemory> {
-        push_number(text, "", u64::from(*self))
+        push_number(text, u64::from(*self))
     }
 }
 
@@ -76,12 +76,11 @@ fn push_comma(text: &mut String, later: bool) -> Result<(), NoMemory>
     Ok(())
 }
 
-/// Adds a text followed by a number.
-pub fn push_number(text: &mut String, front: &str, number: u64) -> Result<(), NoMemory>
-    ensures { OnOk result
-        (string_bytes text.new ≡ string_bytes text.old ++ (front.now ++ decimal number)) }
+/// Adds a number.
+pub fn push_number(text: &mut String, number: u64) -> Result<(), NoMemory>
+    ensures { OnOk result (string_bytes text.new ≡ string_bytes text.old ++ decimal number) }
 {
-    write!(text, "{front}{number}")?;
+    write!(text, "{number}")?;
     Ok(())
 }
 

@@ -1,19 +1,19 @@
 //! Parts with their faults, bad blocks and drivers.
 
 ghost use Rattle.std.specs.Prelude.{◌≡◌, ◌++◌, OnOk, codes, decimal, string_bytes, true};
-ghost use Rattle.json.specs.Print.{quoted};
 ghost use Rattle.serde_json.specs.Data.{Members};
 ghost use Rattle.serde_json.specs.Written.{compact_text, members_text};
 ghost use Rattle.asm_defs.specs.ImageText.{image_data};
-ghost use Rattle.nook_data.specs.ClassNames.{class_text};
-ghost use Rattle.scenario_write.specs.ScenarioText.{arrival_members, bad_block_data, bad_members, disk_members};
-ghost use Rattle.scenario_write.specs.ScenarioText.{fault_data, kind_members, part_data, part_members};
+ghost use Rattle.scenario_write.specs.ScenarioText.{arrival_members, bad_block_data, bad_members, disk_members, driver_data};
+ghost use Rattle.scenario_write.specs.ScenarioText.{fault_data, kind_details, kind_members, part_data, part_members};
 
-use crate::lists::{Written, push_list, push_name, push_number};
+use crate::lists::{Written, push_list, push_name};
+use crate::members::{push_end, push_key, push_number_at, push_word_at};
+use asm_defs::keys::Key;
 use driver_asm::image_value;
-use nook_data::classes::Class;
+use nook_data::classes::{Class, class_text};
 use nook_data::memory::NoMemory;
-use nook_data::scenario::{BadBlock, Fault, FaultKind, Image, PartSpec};
+use nook_data::scenario::{BadBlock, Fault, FaultKind, Image, PartSpec, fault_name, fault_word};
 use std::alloc::Global;
 
 impl Written for BadBlock {
@@ -21,10 +21,9 @@ impl Written for BadBlock {
 
     #[tactic(auto, unfolding(crate::specs::ScenarioText::bad_block_data, json::specs::Print::escape_byte))]
     fn push(&self, _alloc: Global, text: &mut String) -> Result<(), NoMemory> {
-        push_number(text, "{\"block\":", u64::from(self.block))?;
-        push_number(text, ",\"after\":", u64::from(self.after))?;
-        text.push_str("}")?;
-        Ok(())
+        push_number_at(text, "{", Key::Block, u64::from(self.block))?;
+        push_number_at(text, ",", Key::After, u64::from(self.after))?;
+        push_end(text)
     }
 }
 
@@ -33,35 +32,47 @@ impl Written for Fault {
 
     #[tactic(auto, unfolding(crate::specs::ScenarioText::fault_data, json::specs::Print::escape_byte))]
     fn push(&self, _alloc: Global, text: &mut String) -> Result<(), NoMemory> {
-        push_number(text, "{\"burst\":", u64::from(self.burst))?;
-        push_number(text, ",\"after\":", u64::from(self.after))?;
+        push_number_at(text, "{", Key::Burst, u64::from(self.burst))?;
+        push_number_at(text, ",", Key::After, u64::from(self.after))?;
         push_kind(text, self.kind)
     }
 }
 
 /// Adds the members of a fault's kind after others, and the end of the object.
-#[tactic(auto, unfolding(json::specs::Print::escape_byte))]
+#[tactic(auto, unfolding(json::specs::Print::escape_byte), using(crate::proofs::FaultsBack::fault_quoted))]
 fn push_kind(text: &mut String, kind: FaultKind) -> Result<(), NoMemory>
     ensures { OnOk result
         (string_bytes text.new ≡ string_bytes text.old ++ members_text true (kind_members kind)) }
 {
+    push_word_at(text, ",", Key::Kind, fault_word(fault_name(kind)))?;
+    push_kind_details(text, kind)
+}
+
+/// Adds what only faults of a kind have, and the end of the object.
+#[tactic(auto, unfolding(json::specs::Print::escape_byte))]
+fn push_kind_details(text: &mut String, kind: FaultKind) -> Result<(), NoMemory>
+    ensures { OnOk result
+        (string_bytes text.new ≡ string_bytes text.old ++ members_text true (kind_details kind)) }
+{
     match kind {
-        FaultKind::Trap => text.push_str(",\"kind\":\"trap\"}")?,
-        FaultKind::Hang => text.push_str(",\"kind\":\"hang\"}")?,
-        FaultKind::Poke { address, value } => {
-            push_number(text, ",\"kind\":\"poke\",\"address\":", u64::from(address))?;
-            push_value(text, value)?;
-        }
-        FaultKind::Code { address, value } => {
-            push_number(text, ",\"kind\":\"code\",\"address\":", u64::from(address))?;
-            push_value(text, value)?;
-        }
+        FaultKind::Trap | FaultKind::Hang => push_end(text),
+        FaultKind::Poke { address, value } => push_address(text, address, value),
+        FaultKind::Code { address, value } => push_address(text, address, value),
         FaultKind::Reg { register, value } => {
-            push_number(text, ",\"kind\":\"reg\",\"register\":", u64::from(register))?;
-            push_value(text, value)?;
+            push_number_at(text, ",", Key::Register, u64::from(register))?;
+            push_value(text, value)
         }
     }
-    Ok(())
+}
+
+/// Adds the address and the value that a fault writes, and the end of the object.
+fn push_address(text: &mut String, address: u32, value: u32) -> Result<(), NoMemory>
+    ensures { OnOk result (string_bytes text.new ≡ string_bytes text.old
+        ++ (codes ",\"address\":" ++ (decimal address
+        ++ (codes ",\"value\":" ++ (decimal value ++ codes "}"))))) }
+{
+    push_number_at(text, ",", Key::Address, u64::from(address))?;
+    push_value(text, value)
 }
 
 /// Adds the value that a fault writes, and the end of the object.
@@ -69,19 +80,17 @@ fn push_value(text: &mut String, value: u32) -> Result<(), NoMemory>
     ensures { OnOk result (string_bytes text.new
         ≡ string_bytes text.old ++ (codes ",\"value\":" ++ (decimal value ++ codes "}"))) }
 {
-    push_number(text, ",\"value\":", u64::from(value))?;
-    text.push_str("}")?;
-    Ok(())
+    push_number_at(text, ",", Key::Value, u64::from(value))?;
+    push_end(text)
 }
 
 impl Written for PartSpec {
     ghost json = { part_data };
 
     fn push(&self, alloc: Global, text: &mut String) -> Result<(), NoMemory> {
-        text.push_str("{\"name\":")?;
+        push_key(text, "{", Key::Name)?;
         push_name(alloc, text, &self.name)?;
-        text.push_str(",\"class\":")?;
-        push_class(text, self.class)?;
+        push_word_at(text, ",", Key::Class, class_text(self.class))?;
         push_disk(alloc, text, self)?;
         push_members(alloc, text, self)?;
         Ok(())
@@ -95,26 +104,12 @@ fn push_members(alloc: Global, text: &mut String, part: &PartSpec) -> Result<(),
         (string_bytes text.new ≡ string_bytes text.old
         ++ members_text true (part_members part.now)) }
 {
-    push_number(text, ",\"limit\":", u64::from(part.limit))?;
-    text.push_str(",\"driver\":{\"image\":")?;
-    push_image(alloc, text, &part.image)?;
-    text.push_str("},\"faults\":")?;
+    push_number_at(text, ",", Key::Limit, u64::from(part.limit))?;
+    push_key(text, ",", Key::Driver)?;
+    push_driver(alloc, text, &part.image)?;
+    push_key(text, ",", Key::Faults)?;
     push_list(alloc, text, part.faults.as_slice())?;
     push_arrivals(alloc, text, part)?;
-    Ok(())
-}
-
-/// Adds a class as a JSON string.
-#[tactic(auto, unfolding(json::specs::Print::escape_byte))]
-fn push_class(text: &mut String, class: Class) -> Result<(), NoMemory>
-    ensures { OnOk result
-        (string_bytes text.new ≡ string_bytes text.old ++ quoted (class_text class)) }
-{
-    match class {
-        Class::Block => text.push_str("\"block\"")?,
-        Class::Net => text.push_str("\"net\"")?,
-        Class::Sound => text.push_str("\"sound\"")?,
-    }
     Ok(())
 }
 
@@ -126,7 +121,7 @@ fn push_disk(alloc: Global, text: &mut String, part: &PartSpec) -> Result<(), No
 {
     match part.class {
         Class::Block => {
-            push_number(text, ",\"blocks\":", u64::from(part.blocks))?;
+            push_number_at(text, ",", Key::Blocks, u64::from(part.blocks))?;
             push_bad(alloc, text, part.bad.as_slice())
         }
         Class::Net | Class::Sound => Ok(()),
@@ -142,8 +137,19 @@ fn push_bad(alloc: Global, text: &mut String, bad: &[BadBlock]) -> Result<(), No
     if bad.is_empty() {
         return Ok(());
     }
-    text.push_str(",\"bad\":")?;
+    push_key(text, ",", Key::Bad)?;
     push_list(alloc, text, bad)
+}
+
+/// Adds a driver, given as its image.
+#[tactic(auto, unfolding(json::specs::Print::escape_byte))]
+fn push_driver(alloc: Global, text: &mut String, image: &Image) -> Result<(), NoMemory>
+    ensures { OnOk result
+        (string_bytes text.new ≡ string_bytes text.old ++ compact_text (driver_data image.now)) }
+{
+    push_key(text, "{", Key::Image)?;
+    push_image(alloc, text, image)?;
+    push_end(text)
 }
 
 /// Adds an image.
@@ -166,11 +172,10 @@ fn push_arrivals(alloc: Global, text: &mut String, part: &PartSpec) -> Result<()
 {
     match part.class {
         Class::Net => {
-            text.push_str(",\"arrivals\":")?;
+            push_key(text, ",", Key::Arrivals)?;
             push_list(alloc, text, part.arrivals.as_slice())?;
-            text.push_str("}")?;
+            push_end(text)
         }
-        Class::Block | Class::Sound => text.push_str("}")?,
+        Class::Block | Class::Sound => push_end(text),
     }
-    Ok(())
 }

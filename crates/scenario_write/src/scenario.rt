@@ -6,7 +6,9 @@ ghost use Rattle.nook_data.specs.Valid.{IsValidScenario};
 ghost use Rattle.serde_json.specs.Written.{compact_text};
 ghost use Rattle.scenario_write.specs.ScenarioText.{has_bad, scenario_data, scenario_json, scenario_line, version_of};
 
-use crate::lists::{Written, push_list, push_number};
+use crate::lists::{Written, push_list};
+use crate::members::{push_end, push_key, push_number_at};
+use asm_defs::keys::Key;
 use nook_data::lists::Words8;
 use nook_data::memory::NoMemory;
 use nook_data::scenario::{PartSpec, Scenario};
@@ -52,14 +54,14 @@ impl Written for Scenario {
     ghost json = { scenario_data };
 
     fn push(&self, alloc: Global, text: &mut String) -> Result<(), NoMemory> {
-        push_number(text, "{\"version\":", version_of(self.parts.as_slice()))?;
-        text.push_str(",\"schedule\":")?;
+        push_number_at(text, "{", Key::Version, version_of(self.parts.as_slice()))?;
+        push_key(text, ",", Key::Schedule)?;
         self.schedule.push(alloc, text)?;
-        text.push_str(",\"parts\":")?;
+        push_key(text, ",", Key::Parts)?;
         push_list(alloc, text, self.parts.as_slice())?;
-        text.push_str(",\"threads\":")?;
+        push_key(text, ",", Key::Threads)?;
         push_list(alloc, text, self.threads.as_slice())?;
-        text.push_str("}")?;
+        push_end(text)?;
         Ok(())
     }
 }

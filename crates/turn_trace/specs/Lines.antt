@@ -4,6 +4,7 @@ use Rattle.nook_data.specs.declared.entries.Entry.{Entry}
 use Rattle.nook_data.specs.declared.scenario.Fault.{Fault}
 use Rattle.nook_data.specs.declared.scenario.FaultKind.{FaultKind}
 use Rattle.nook_data.specs.declared.scenario.FaultKind.TheVariants as fault
+use Rattle.nook_data.specs.FaultNames.{fault_name, fault_word}
 use Rattle.nook_data.specs.declared.machine.Cpu.{Cpu}
 use Rattle.nook_data.specs.declared.memory_map.TheConstants.{TEXT_WORDS}
 use Rattle.asm_defs.specs.Disassembler.{line_body, text_tokens}
@@ -16,12 +17,17 @@ use Rattle.turn_trace.specs.declared.traced.TracedTurn.{TracedTurn}
 
 -- ---- a fault
 
+-- where a fault of a kind writes, and the value
+abbrev pub operands_text : FaultKind → List ℕ
+operands_text fault.Trap = []
+operands_text fault.Hang = []
+operands_text (fault.Poke address value) = spaced address ++ spaced value
+operands_text (fault.Code address value) = spaced address ++ spaced value
+operands_text (fault.Reg register value) = spaced register ++ spaced value
+
+-- a kind of fault, with what it writes
 abbrev pub kind_text : FaultKind → List ℕ
-kind_text fault.Trap = codes "trap"
-kind_text fault.Hang = codes "hang"
-kind_text (fault.Poke address value) = with_number (codes "poke ") address ++ spaced value
-kind_text (fault.Code address value) = with_number (codes "code ") address ++ spaced value
-kind_text (fault.Reg register value) = with_number (codes "reg ") register ++ spaced value
+kind_text kind = fault_word (fault_name kind) ++ operands_text kind
 
 -- a word, the number of instructions before the fault, and its kind
 abbrev pub fault_text : List ℕ → Fault → List ℕ

@@ -3,14 +3,14 @@
 ghost use Rattle.std.specs.Prelude.{◌≡◌, ◌++◌, false, None, OnOk, Some};
 ghost use Rattle.driver_isa.specs.Turns.{machine_of};
 ghost use Rattle.machine_defs.specs.Burst.{struck_machine, trap_of};
-ghost use Rattle.report_defs.specs.ReportLines.{spaced, with_number};
+ghost use Rattle.report_defs.specs.ReportLines.{spaced};
 ghost use Rattle.turn_trace.specs.Lines.{is_refused, kind_text};
 
 use driver_isa::Bus;
 use nook_data::machine::{Cpu, TrapCause};
 use nook_data::memory::NoMemory;
 use nook_data::memory_map::TEXT_WORDS;
-use nook_data::scenario::FaultKind;
+use nook_data::scenario::{FaultKind, fault_name, fault_word};
 use report_text::{Line, push_number};
 
 /// Whether a fault was refused, and its trap, if it is one.
@@ -70,25 +70,23 @@ fn going_on(refused: bool) -> Hit
     }
 }
 
-/// What a fault does.
+/// A kind of fault, with what it writes and where.
 pub fn push_kind(line: &mut Line, kind: FaultKind) -> Result<(), NoMemory>
     ensures { OnOk result (line.new ≡ line.old ++ kind_text kind) }
 {
+    line.push(fault_word(fault_name(kind)))?;
     match kind {
-        FaultKind::Trap => line.push("trap"),
-        FaultKind::Hang => line.push("hang"),
-        FaultKind::Poke { address, value } => push_writing(line, "poke ", address, value),
-        FaultKind::Code { address, value } => push_writing(line, "code ", address, value),
-        FaultKind::Reg { register, value } => {
-            push_writing(line, "reg ", u32::from(register), value)
-        }
+        FaultKind::Trap | FaultKind::Hang => Ok(()),
+        FaultKind::Poke { address, value } => push_writing(line, address, value),
+        FaultKind::Code { address, value } => push_writing(line, address, value),
+        FaultKind::Reg { register, value } => push_writing(line, u32::from(register), value),
     }
 }
 
-/// A word, an address or register, and what is written there.
-fn push_writing(line: &mut Line, word: &str, point: u32, value: u32) -> Result<(), NoMemory>
-    ensures { OnOk result (line.new ≡ line.old ++ (with_number word.now point ++ spaced value)) }
+/// An address or a register, and the value that is written there.
+fn push_writing(line: &mut Line, target: u32, value: u32) -> Result<(), NoMemory>
+    ensures { OnOk result (line.new ≡ line.old ++ (spaced target ++ spaced value)) }
 {
-    push_number(line, word, u64::from(point))?;
+    push_number(line, " ", u64::from(target))?;
     push_number(line, " ", u64::from(value))
 }

@@ -8,9 +8,12 @@ use Rattle.input_defs.specs.Faults.{fault_line}
 use Rattle.run_defs.specs.Generated.{generated}
 use Rattle.input_defs.specs.ImageReading.{hex_word, image_of, driver_of, image_from, image_from_asm}
 use Rattle.asm_defs.specs.ImageText.{image_data, image_text}
-use Rattle.input_defs.specs.PartReading.{new_name, fault_named, fault_kind, fault_of, bad_block_of, part_of}
+use Rattle.nook_data.specs.FaultNames.{fault_named}
+use Rattle.input_defs.specs.PartReading.{new_name, fault_kind, fault_of, bad_block_of, part_of}
 use Rattle.input_defs.specs.Reading.{is_utf8, json_of}
-use Rattle.input_defs.specs.ScenarioReading.{schedule_named, schedule_by, schedule_of, op_named, op_by, op_of}
+use Rattle.nook_data.specs.OpNames.{op_named}
+use Rattle.input_defs.specs.ScenarioReading.{schedule_by, schedule_of, op_by, op_of}
+use Rattle.input_defs.specs.ScheduleNames.{schedule_named}
 use Rattle.input_defs.specs.ScenarioReading.{thread_of, scenario_of, scenario_from}
 
 -- what a law unfolds to compute the definitions of inputs on literals

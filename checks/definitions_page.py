@@ -66,7 +66,8 @@ CHAPTERS = (
         "Assembler texts, images, scenarios and campaigns from their bytes, or their first fault.",
         ("asm_defs/Types", "asm_defs/Results", "asm_defs/Keys", "asm_defs/AsmTokens", "asm_defs/AsmLines", "asm_defs/Assembler",
          "asm_defs/Disassembler", "asm_defs/ImageText", "input_defs/Types", "input_defs/Reading", "input_defs/ImageReading",
-         "input_defs/PartReading", "input_defs/ScenarioReading", "input_defs/CampaignReading", "input_defs/PlanReading", "input_defs/Faults"),
+         "nook_data/FaultNames", "nook_data/OpNames", "input_defs/PartReading", "input_defs/ScheduleNames", "input_defs/ScenarioReading",
+         "input_defs/CampaignReading", "input_defs/PlanReading", "input_defs/Faults"),
     ),
     Chapter(
         "Texts that are written",

@@ -27,6 +27,9 @@ DEVICES = "crates/machine_defs/specs/Devices.antt"
 CLASSES = "crates/nook_data/specs/Classes.antt"
 CLASS_NAMES = "crates/nook_data/specs/ClassNames.antt"
 CLAUSES = "crates/nook_data/specs/Clauses.antt"
+FAULT_NAMES = "crates/nook_data/specs/FaultNames.antt"
+OP_NAMES = "crates/nook_data/specs/OpNames.antt"
+SCHEDULE_NAMES = "crates/input_defs/specs/ScheduleNames.antt"
 KEYS = "crates/asm_defs/specs/Keys.antt"
 SCENARIO = "crates/input_defs/specs/ScenarioReading.antt"
 PART = "crates/input_defs/specs/PartReading.antt"
@@ -192,13 +195,14 @@ def inputs() -> dict[str, dict[str, Row]]:
     }
 
 
-def kinds(file: str, named: str, keys: str, read: str) -> list[Row]:
-    """The names of a kind of thing with the keys that only each has: `named` has the names, `keys` the keys, and `read`
-    their values."""
-    pairs = re.findall(r'\(codes "(\w+)", \w+\.(\w+)\)', body_of(file, named))
+def kinds(words: tuple[str, str], file: str, keys: str, read: str) -> list[Row]:
+    """The names of a kind of thing with the keys that only each has: `words` has the names, in another file, `keys` the
+    keys, and `read` their values."""
+    named = by_variant(*words)
     own, bodies = by_variant(file, keys), by_variant(file, read)
-    if [name for _, name in pairs] != list(own) or list(own) != list(bodies):
-        raise UnknownShape(f"{file}: {named}, {keys} and {read} do not have the same names in the same order")
+    if list(named) != list(own) or list(own) != list(bodies):
+        raise UnknownShape(f"{words[1]} of {words[0]}, {keys} and {read} of {file} do not have the same names in the same order")
+    pairs = [(texts(body)[0], name) for name, body in named.items()]
     found = []
     for text, name in pairs:
         at = ranges_of(bodies[name], file)
@@ -216,14 +220,14 @@ def fault_kinds() -> list[Row]:
     changes = dict.fromkeys(by_variant(BURST, "struck_registers"), "register")
     changes |= {kind: "text" if "TEXT_WORDS" in body else "memory" for kind, body in by_variant(BURST, "struck_memory").items()}
     names = list(by_variant(PART, "fault_keys"))
-    rows_read = kinds(PART, "fault_named", "fault_keys", "fault_kind")
+    rows_read = kinds((FAULT_NAMES, "fault_word"), PART, "fault_keys", "fault_kind")
     return [{"name": row["name"], "stops": stops.get(name), "changes": changes.get(name), "keys": row["keys"]}
             for name, row in zip(names, rows_read, strict=True)]
 
 
 def schedules() -> list[Row]:
     """The kinds of schedule."""
-    return kinds(SCENARIO, "schedule_named", "schedule_keys", "schedule_by")
+    return kinds((SCHEDULE_NAMES, "schedule_word"), SCENARIO, "schedule_keys", "schedule_by")
 
 
 def operations() -> list[Row]:
@@ -231,7 +235,7 @@ def operations() -> list[Row]:
     classes = {last_name(equation.arguments.partition(" ")[2]): equation.body for equation in equations(CLASSES, "is_of_class")}
     names = by_variant(CLASS_NAMES, "class_text")
     found = []
-    for row in kinds(SCENARIO, "op_named", "op_keys", "op_by"):
+    for row in kinds((OP_NAMES, "op_word"), SCENARIO, "op_keys", "op_by"):
         body = next((body for name, body in classes.items() if snake(name) == row["name"]), "true")
         own = re.fullmatch(r"same_class class (\w+)", body)
         if not own and body != "true":
@@ -477,9 +481,9 @@ TABLES = (
     Table("services", (MACHINE, SERVICES), services),
     Table("classes", (CLASSES, CLASS_NAMES, KEYS, PART, DEVICES_PAGE), classes),
     Table("ports", (DEVICES,), ports),
-    Table("operations", (SCENARIO, CLASSES), operations),
-    Table("fault_kinds", (PART, BURST, LINES), fault_kinds),
-    Table("schedules", (SCENARIO,), schedules),
+    Table("operations", (OP_NAMES, SCENARIO, CLASSES), operations),
+    Table("fault_kinds", (FAULT_NAMES, PART, BURST, LINES), fault_kinds),
+    Table("schedules", (SCHEDULE_NAMES, SCENARIO), schedules),
     Table("inputs", (SCENARIO, PART, IMAGE, CAMPAIGN, PLAN), inputs),
     Table("clauses", (CLAUSES, REPORT_PAGE), clauses),
     Table("report", (LINES, REPORT, CLASSES), report),

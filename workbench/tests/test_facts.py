@@ -24,11 +24,13 @@ class Tables(unittest.TestCase):
         statuses = re.findall(r"(?m)^status (\d+) +(\S.*)$", program().ask(["--help"], "").out)
         self.assertEqual([(str(row["number"]), row["means"]) for row in facts.TABLES["statuses"]], statuses)
 
-    def test_what_is_read_is_what_help_says(self):
-        reading = {row["words"].split(" ")[0] for row in facts.TABLES["forms"] if row["reads"]}
-        for name in sorted(reading - {"trace"}):
-            self.assertEqual(program().ask([name], "").status, facts.STATUSES["bad_input"], name)
-        self.assertEqual(reading, {"run", "asm", "dis", "list", "audit", "campaign", "mirror", "trace", "guard", "explore"})
+    def test_what_reads_refuses_what_is_too_long(self):
+        too_long = " " * (max(facts.LIMITS["INPUT_BYTES"], facts.LIMITS["AUDIT_BYTES"]) + 1)
+        arguments = {"N": "1", "P": "0", "B": "1"}
+        for row in facts.TABLES["forms"]:
+            words = [arguments.get(word, word) for word in row["words"].split(" ")]
+            ended = program().ask(words, too_long if row["reads"] else "")
+            self.assertEqual(ended.status, facts.STATUSES["bad_input"] if row["reads"] else 0, row["words"])
 
     def test_a_table_of_each_kind(self):
         self.assertEqual(facts.OPERANDS["BLT"], "a b imm")

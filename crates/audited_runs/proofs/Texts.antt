@@ -3,7 +3,7 @@ use Rattle.std.proofs.Common.{◌≡◌, ℕ, suc, ◌+◌, nat_lt, Bool, true, 
 use Rattle.std.specs.List.{AllByRecursion}
 use Rattle.std.proofs.lemmas.List.Elements.{recursion_from_All}
 use Rattle.nook_io.specs.Listening.{Listening, count_if, hears}
-use Rattle.report_defs.specs.ReportText.{parts_text, report_text, status_line, status_of, taps_text, threads_text}
+use Rattle.report_defs.specs.ReportText.{ending_text, parts_text, report_text, status_of, threads_text}
 use Rattle.run_defs.specs.Simulation.{IsScheduledRun, RunningPart, Simulation, ThreadState, answer_table, begins}
 use Rattle.run_defs.specs.Simulation.{journal_of, journals_of}
 use Rattle.nook_io.specs.Listening.{heard_events, tap_result}
@@ -104,11 +104,11 @@ scheduled_text scenario s v r =
     ap (λ text. parts_text 0 scenario.parts (journals_of s) ++ text)
     (ap (last_lines scenario) left
     ∙ ap (λ table. threads_text 0 scenario.threads table
-    ++ (taps_text 0 (map (λ l. tap_result l (published_in 0 sections)) own_listeners) ++ status_line (status_of scenario.parts (map journal_in sections)))) answers
-    ∙ ap (λ taps. threads_text 0 scenario.threads (answer_table s) ++ (taps_text 0 taps ++ status_line (status_of scenario.parts (map journal_in sections))))
+    ++ ending_text (map (λ l. tap_result l (published_in 0 sections)) own_listeners) (status_of scenario.parts (map journal_in sections))) answers
+    ∙ ap (λ taps. threads_text 0 scenario.threads (answer_table s) ++ ending_text taps (status_of scenario.parts (map journal_in sections)))
     (results_same (published_in 0 sections) (published r.steps (begins scenario)) own_listeners heard)
     ∙ ap (λ js. threads_text 0 scenario.threads (answer_table s)
-    ++ (taps_text 0 (map (λ l. tap_result l (published r.steps (begins scenario))) own_listeners) ++ status_line (status_of scenario.parts js))) journals)
+    ++ ending_text (map (λ l. tap_result l (published r.steps (begins scenario))) own_listeners) (status_of scenario.parts js)) journals)
   where
     plus : (k : ℕ) → k ≡ 0 + k
     plus k = omega arith

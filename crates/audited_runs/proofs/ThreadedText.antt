@@ -2,7 +2,7 @@
 use Rattle.std.proofs.Common.{◌≡◌, ℕ, suc, ◌+◌, List, [], ◌∷◌, ◌++◌, map, refl, sym, ap, ap₂, ◌∙◌, add-one}
 use Rattle.std.proofs.lemmas.List.Elements.{recursion_from_All}
 use Rattle.nook_io.specs.Listening.{Listening}
-use Rattle.report_defs.specs.ReportText.{parts_text, report_text, status_line, status_of, taps_text, threads_text}
+use Rattle.report_defs.specs.ReportText.{ending_text, parts_text, report_text, status_of, threads_text}
 use Rattle.nook_io.specs.Listening.{heard_events, tap_result}
 use Rattle.nook_data.specs.Valid.{IsValidPart, IsValidScenario}
 use Rattle.nook_data.specs.declared.calls.Answer.{Answer}
@@ -57,8 +57,8 @@ threaded_text scenario journals answers v runs threaded =
     λ l. heard_in_sections l 0 sections ∙ ap (heard_in_journals l 0) have ∙ sym (heard_in_parts l 0 journals) in
     ap (λ text. parts_text 0 scenario.parts journals ++ text)
     (ap (λ table. threads_text 0 scenario.threads table
-    ++ (taps_text 0 (map (λ l. tap_result l (published_in 0 sections)) own_listeners) ++ status_line (status_of scenario.parts (map journal_in sections)))) same
-    ∙ ap (λ taps. threads_text 0 scenario.threads answers ++ (taps_text 0 taps ++ status_line (status_of scenario.parts (map journal_in sections))))
+    ++ ending_text (map (λ l. tap_result l (published_in 0 sections)) own_listeners) (status_of scenario.parts (map journal_in sections))) same
+    ∙ ap (λ taps. threads_text 0 scenario.threads answers ++ ending_text taps (status_of scenario.parts (map journal_in sections)))
     (results_same (published_in 0 sections) (in_parts 0 journals) own_listeners heard)
     ∙ ap (λ js. threads_text 0 scenario.threads answers
-    ++ (taps_text 0 (map (λ l. tap_result l (in_parts 0 journals)) own_listeners) ++ status_line (status_of scenario.parts js))) have)
+    ++ ending_text (map (λ l. tap_result l (in_parts 0 journals)) own_listeners) (status_of scenario.parts js)) have)

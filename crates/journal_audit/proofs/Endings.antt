@@ -1,7 +1,7 @@
 -- What is found after a section's events and after the last section.
 use Rattle.std.proofs.Common.{◌≡◌, ℕ, Bool, true, false, Option, Some, None, List, [], ◌∷◌, ◌++◌, if◌then◌else◌, drop, length, map, Result, Ok, Err, OnOk, refl, sym, ap, subst, ◌∙◌}
 use Rattle.run_laws.specs.Audit.{Auditing, Done, Section, after_line, answers_in_order, done_of, first_unfit, has_nothing, is_complete, is_ended, is_numbered, last_lines, lines_of, own_listeners, published_in, section_end}
-use Rattle.report_defs.specs.ReportText.{final_lines, status_line, taps_text, threads_text}
+use Rattle.report_defs.specs.ReportText.{ending_text, final_lines, threads_text}
 use Rattle.part_defs.specs.Runs.{PartRun}
 use Rattle.nook_data.specs.declared.steps.Event.{Event}
 use Rattle.nook_data.specs.declared.calls.Answer.{Answer}
@@ -102,7 +102,7 @@ last_due scenario sections p h = last_from scenario sections (last_lines scenari
 -- what was summed up gives these lines
 last_of : (scenario : Scenario) (sections : List Done) (t : Past) → SumsUp scenario.parts sections t
     → threads_text 0 scenario.threads (answers_in_order 0 scenario.threads sections)
-    ++ (taps_text 0 (map result_of t.taps) ++ status_line (if t.broken then 7 else if t.given_up then 1 else 0))
+    ++ ending_text (map result_of t.taps) (if t.broken then 7 else if t.given_up then 1 else 0)
     ≡ last_lines scenario sections
 unfolding last_lines
 last_of scenario sections t sums =
@@ -112,7 +112,7 @@ pub last_text : (scenario : Scenario) (sections : List Done) (t : Past) (threads
     (taps : List (ℕ × Bool)) (status : ℕ) → SumsUp scenario.parts sections t → scenario.threads ≡ threads
     → answers ≡ answers_in_order 0 threads sections → taps ≡ map result_of t.taps
     → status ≡ (if t.broken then 7 else if t.given_up then 1 else 0)
-    → threads_text 0 threads answers ++ (taps_text 0 taps ++ status_line status) ≡ last_lines scenario sections
+    → threads_text 0 threads answers ++ ending_text taps status ≡ last_lines scenario sections
 last_text scenario sections t threads answers taps status sums e a l s =
     rw (a, l, s, ← e) (last_of scenario sections t sums)
 

@@ -7,7 +7,7 @@ ghost use Rattle.journal_audit.specs.Found.{at_last, between, found_from};
 ghost use Rattle.journal_audit.specs.Position.{Follows};
 ghost use Rattle.journal_audit.specs.Stopping.{Checks};
 ghost use Rattle.journal_audit.specs.PastSections.{SumsUp, answers_in};
-ghost use Rattle.report_defs.specs.ReportText.{status_line, taps_text, threads_text};
+ghost use Rattle.report_defs.specs.ReportText.{ending_text, threads_text};
 ghost use Rattle.nook_data.specs.declared.calls.Answer.{Answer};
 ghost use Rattle.nook_data.specs.declared.scenario.Scenario.{Scenario};
 ghost use Rattle.nook_io.specs.Changes.{change};
@@ -25,7 +25,7 @@ use nook_data::memory::NoMemory;
 use nook_data::scenario::ThreadSpec;
 use nook_io::listeners::TapTotals;
 use nook_io::outside::Sink;
-use report_text::{WriteStop, write_status_line, write_taps, write_threads};
+use report_text::{WriteStop, write_ending, write_threads};
 use run_results::ReportStatus;
 use std::alloc::Global;
 use std::marker::Model;
@@ -72,11 +72,10 @@ fn write_last<K: Sink>(
     requires { length threads.now ≤ MOST_THREADS }
     ensures { Wrote (change K.held K.count sink.old sink.new) result
         (threads_text 0 threads.now answers.now
-        ++ (taps_text 0 taps.now ++ status_line (status_number status))) }
+        ++ ending_text taps.now (status_number status)) }
 {
     write_threads(alloc, sink, 0, threads, answers)?;
-    write_taps(alloc, sink, taps.as_slice())?;
-    write_status_line(alloc, sink, status.number())
+    write_ending(alloc, sink, taps.as_slice(), status.number())
 }
 
 /// Each thread's answers in the order of its script.

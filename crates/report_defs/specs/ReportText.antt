@@ -140,6 +140,10 @@ taps_text number (t ∷ taps) =
 abbrev pub status_line : ℕ → List ℕ
 status_line status = with_number (codes "status ") status ++ line_feed
 
+-- the lines after the threads: the listeners, and the status
+abbrev pub ending_text : List (ℕ × Bool) → ℕ → List ℕ
+ending_text taps status = taps_text 0 taps ++ status_line status
+
 -- some part broke its contract; there is a journal for each part
 unfoldable pub has_break : List PartSpec → List (List Event) → Bool
 has_break [] journals = false
@@ -160,8 +164,7 @@ status_of specs journals = if has_break specs journals then 7 else if has_given_
 -- the report of a scenario's journals, its threads' answers, its listeners' totals and a status
 unfoldable pub report_text : Scenario → List (List Event) → List (List (ℕ × Answer)) → List (ℕ × Bool) → ℕ → List ℕ
 report_text scenario journals answers taps status =
-    parts_text 0 scenario.parts journals ++ (threads_text 0 scenario.threads answers
-    ++ (taps_text 0 taps ++ status_line status))
+    parts_text 0 scenario.parts journals ++ (threads_text 0 scenario.threads answers ++ ending_text taps status)
 
 -- ---- the summary line of a generated scenario
 

@@ -18,8 +18,8 @@ use Rattle.machine_defs.specs.Pages.{object_words}
 use Rattle.report_defs.specs.ReportLines.{event_lines}
 use Rattle.report_defs.specs.ReportText.{journal_acts, block_lines, contract_line, device_lines}
 use Rattle.report_defs.specs.ReportText.{final_lines, losses_lines, object_lines, part_line}
-use Rattle.report_defs.specs.ReportText.{part_text, parts_text, played_line, report_text, status_line}
-use Rattle.report_defs.specs.ReportText.{taps_text, thread_line, threads_text, wire_line}
+use Rattle.report_defs.specs.ReportText.{ending_text, part_text, parts_text, played_line, report_text}
+use Rattle.report_defs.specs.ReportText.{thread_line, threads_text, wire_line}
 use Rattle.report_defs.specs.Views.Reporting.{config_line, failures_line, object_line}
 use Rattle.report_defs.specs.Views.Reporting.{acts_of_event}
 use Rattle.nook_data.specs.Views.Room.{Kept}
@@ -157,7 +157,7 @@ pub rows_are_text : (scenario : Scenario) (r : Report) → IsReport scenario r
     → report_rows scenario r ≡ report_text scenario (lists_of r.run.journals) r.run.answers r.run.taps r.status
 unfolding report_text
 rows_are_text scenario r h =
-    ap (λ front. front ++ (threads_text 0 scenario.threads r.run.answers ++ (taps_text 0 r.run.taps ++ status_line r.status)))
+    ap (λ front. front ++ (threads_text 0 scenario.threads r.run.answers ++ ending_text r.run.taps r.status))
     (ap (λ parts. parts_rows 0 scenario.parts r.run.journals parts r.ends) h.parts
     ∙ parts_same 0 scenario.parts r.run.journals r.ends h.ends)
 
@@ -166,7 +166,7 @@ pub mirror_rows_are_text : (scenario : Scenario) (r : Report) (answers : List Mi
     ≡ mirror_report_text scenario (lists_of r.run.journals) answers r.run.taps status
 unfolding mirror_report_text
 mirror_rows_are_text scenario r answers status h =
-    ap (λ front. front ++ (mirror_threads_text scenario.threads answers ++ (taps_text 0 r.run.taps ++ status_line status)))
+    ap (λ front. front ++ (mirror_threads_text scenario.threads answers ++ ending_text r.run.taps status))
     (ap (λ parts. parts_rows 0 scenario.parts r.run.journals parts r.ends) h.parts
     ∙ parts_same 0 scenario.parts r.run.journals r.ends h.ends)
 

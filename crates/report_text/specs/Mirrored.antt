@@ -6,7 +6,7 @@ use Rattle.nook_data.specs.declared.mirror.MirrorAnswer.TheVariants as mirrored
 use Rattle.nook_data.specs.declared.scenario.Scenario.{Scenario}
 use Rattle.nook_data.specs.declared.scenario.ThreadSpec.{ThreadSpec}
 use Rattle.report_defs.specs.ReportLines.{line_feed, with_list, with_number}
-use Rattle.report_defs.specs.ReportText.{parts_text, status_line, taps_text, thread_line}
+use Rattle.report_defs.specs.ReportText.{ending_text, parts_text, thread_line}
 use Rattle.run_results.specs.declared.report.Report.{Report}
 use Rattle.report_text.specs.Whole.{parts_rows}
 use Rattle.report_text.specs.Writing.{each_text}
@@ -31,11 +31,10 @@ mirror_threads_text (t ∷ threads) answers = thread_line 0 t ++ each_text mirro
 -- the report of a mirror: of its parts' journals, its answers, the listeners' totals and a status
 unfoldable pub mirror_report_text : Scenario → List (List Event) → List MirrorAnswer → List (ℕ × Bool) → ℕ → List ℕ
 mirror_report_text scenario journals answers taps status =
-    parts_text 0 scenario.parts journals ++ (mirror_threads_text scenario.threads answers
-    ++ (taps_text 0 taps ++ status_line status))
+    parts_text 0 scenario.parts journals ++ (mirror_threads_text scenario.threads answers ++ ending_text taps status)
 
 -- the same text by the rows of a report
 abbrev pub mirror_report_rows : Scenario → Report → List MirrorAnswer → ℕ → List ℕ
 mirror_report_rows scenario r answers status =
     parts_rows 0 scenario.parts r.run.journals r.parts r.ends
-    ++ (mirror_threads_text scenario.threads answers ++ (taps_text 0 r.run.taps ++ status_line status))
+    ++ (mirror_threads_text scenario.threads answers ++ ending_text r.run.taps status)

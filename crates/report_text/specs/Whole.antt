@@ -10,8 +10,8 @@ use Rattle.nook_data.specs.declared.scenario.Scenario.{Scenario}
 use Rattle.promise_defs.specs.Contract.{first_break}
 use Rattle.promise_defs.specs.Losses.{losses}
 use Rattle.report_defs.specs.ReportLines.{event_lines, line_feed, with_number}
-use Rattle.report_defs.specs.ReportText.{block_lines, contract_line, losses_lines, part_line, played_line, status_line}
-use Rattle.report_defs.specs.ReportText.{taps_text, threads_text, wire_line}
+use Rattle.report_defs.specs.ReportText.{block_lines, contract_line, ending_text, losses_lines, part_line, played_line}
+use Rattle.report_defs.specs.ReportText.{threads_text, wire_line}
 use Rattle.report_defs.specs.Views.Reporting.{config_line, failures_line, object_line}
 use Rattle.report_defs.specs.Views.Reporting.{acts_of_event}
 use Rattle.nook_data.specs.Views.Room.{Kept}
@@ -89,4 +89,4 @@ parts_rows number (s ∷ specs) (journal ∷ journals) (r ∷ reports) (e ∷ en
 abbrev pub report_rows : Scenario → Report → List ℕ
 report_rows scenario r =
     parts_rows 0 scenario.parts r.run.journals r.parts r.ends
-    ++ (threads_text 0 scenario.threads r.run.answers ++ (taps_text 0 r.run.taps ++ status_line r.status))
+    ++ (threads_text 0 scenario.threads r.run.answers ++ ending_text r.run.taps r.status)

@@ -5,7 +5,7 @@ ghost use Rattle.std.specs.Prelude.{bytes_eq, flat_map, length, replicate};
 ghost use Rattle.machine_defs.specs.Pages.{opening_object};
 ghost use Rattle.report_defs.specs.ReportLines.{spaced};
 ghost use Rattle.report_defs.specs.ReportText.{block_lines, contract_line, final_lines, losses_lines, played_line};
-ghost use Rattle.report_defs.specs.ReportText.{report_text, status_line, taps_text, threads_text, wire_line};
+ghost use Rattle.report_defs.specs.ReportText.{ending_text, report_text, taps_text, threads_text, wire_line};
 ghost use Rattle.report_defs.specs.Views.Reporting.{block_line, config_line, failures_line, object_line, tap_line};
 ghost use Rattle.report_defs.specs.Views.Reporting.{tap_text};
 ghost use Rattle.part_defs.specs.State.{PartState};
@@ -515,8 +515,21 @@ fn write_parts<K: Sink>(
     write_parts(alloc, sink, number + 1, &others)
 }
 
+/// Writes the lines after the threads: the listeners, and the status.
+pub fn write_ending<K: Sink>(
+    alloc: Global,
+    sink: &mut K,
+    taps: &[(u64, bool)],
+    status: u32,
+) -> Result<(), WriteStop>
+    ensures { Wrote (change K.held K.count sink.old sink.new) result (ending_text taps.now status) }
+{
+    write_taps(alloc, sink, taps)?;
+    write_status_line(alloc, sink, status)
+}
+
 /// Writes the listeners; the first has number 0.
-pub fn write_taps<K: Sink>(
+fn write_taps<K: Sink>(
     alloc: Global,
     sink: &mut K,
     taps: &[(u64, bool)],
@@ -582,8 +595,7 @@ fn write_mirror_rows<K: Sink>(
 {
     write_all_parts(alloc, scenario, report, sink)?;
     write_mirror_threads(alloc, sink, scenario.threads.as_slice(), answers)?;
-    write_taps(alloc, sink, report.run.taps.as_slice())?;
-    write_status_line(alloc, sink, status)
+    write_ending(alloc, sink, report.run.taps.as_slice(), status)
 }
 
 /// Writes the rows of a report.
@@ -604,8 +616,7 @@ fn write_rows<K: Sink>(
         scenario.threads.as_slice(),
         report.run.answers.as_slice(),
     )?;
-    write_taps(alloc, sink, report.run.taps.as_slice())?;
-    write_status_line(alloc, sink, report.status)
+    write_ending(alloc, sink, report.run.taps.as_slice(), report.status)
 }
 
 /// Writes the lines of all parts.

@@ -5,7 +5,7 @@ use Rattle.machine_defs.specs.Devices.{medium_of}
 use Rattle.machine_defs.specs.Pages.{object_words, opening_object}
 use Rattle.report_defs.specs.ReportLines.{answer_text, line_feed, spaced, with_list, with_number}
 use Rattle.report_defs.specs.ReportText.{journal_acts, answer_lines, block_lines, contract_line, device_lines}
-use Rattle.report_defs.specs.ReportText.{final_lines, losses_lines, object_lines, played_line, status_line, status_of}
+use Rattle.report_defs.specs.ReportText.{ending_text, final_lines, losses_lines, object_lines, played_line, status_line, status_of}
 use Rattle.report_defs.specs.ReportText.{taps_text, thread_line, threads_text, wire_line}
 use Rattle.report_defs.specs.Views.Reporting.{block_line, config_line, failures_line, object_line, tap_line}
 use Rattle.report_defs.specs.Views.Reporting.{tap_text}
@@ -210,10 +210,12 @@ taps_whole index (t ∷ taps) =
     (number_ended (codes " total ") t.0 (tap_text t.1 ++ line_feed) (ended_after (tap_text t.1) line_feed refl))))
     (taps_whole (suc index) taps)
 
+ending_ended : (taps : List (ℕ × Bool)) (status : ℕ) → is_ended (ending_text taps status) ≡ true
+ending_ended taps status =
+    ended_after (taps_text 0 taps) (status_line status) (number_ended (codes "status ") status line_feed refl)
+
 pub last_lines_ended : (scenario : Scenario) (sections : List Done) → is_ended (last_lines scenario sections) ≡ true
 unfolding last_lines
 last_lines_ended scenario sections =
-    let status : ℕ = status_of scenario.parts (map journal_in sections) in
     ended_after (threads_text 0 scenario.threads (answers_in_order 0 scenario.threads sections)) _
-    (ended_after (taps_text 0 (map (λ l. tap_result l (published_in 0 sections)) own_listeners)) (status_line status)
-    (number_ended (codes "status ") status line_feed refl))
+    (ending_ended (map (λ l. tap_result l (published_in 0 sections)) own_listeners) (status_of scenario.parts (map journal_in sections)))

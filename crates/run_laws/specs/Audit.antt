@@ -6,7 +6,7 @@ use Rattle.promise_defs.specs.Contract.{first_break}
 use Rattle.nook_io.specs.Listening.{Listening}
 use Rattle.promise_defs.specs.Losses.{losses}
 use Rattle.report_defs.specs.ReportLines.{event_line}
-use Rattle.report_defs.specs.ReportText.{final_lines, part_line, status_line, status_of, taps_text, threads_text}
+use Rattle.report_defs.specs.ReportText.{ending_text, final_lines, part_line, status_of, threads_text}
 use Rattle.part_defs.specs.Runs.{event_of, next_any}
 use Rattle.run_defs.specs.Simulation.{RunningPart, ThreadState, answers_of_thread, opening_part, part_after}
 use Rattle.run_defs.specs.Simulation.{threads_after}
@@ -212,8 +212,8 @@ journal_in d = d.journal
 unfoldable pub last_lines : Scenario → List Done → List ℕ
 last_lines scenario sections =
     threads_text 0 scenario.threads (answers_in_order 0 scenario.threads sections)
-    ++ (taps_text 0 (map (λ l. tap_result l (published_in 0 sections)) own_listeners)
-    ++ status_line (status_of scenario.parts (map journal_in sections)))
+    ++ ending_text (map (λ l. tap_result l (published_in 0 sections)) own_listeners)
+    (status_of scenario.parts (map journal_in sections))
 
 -- ---- the fold over the lines
 

@@ -2,7 +2,7 @@ use Rattle.std.proofs.Common.{◌≡◌, List, ◌++◌, [], ap, sym, subst, ◌
 use Rattle.nook_data.specs.declared.scenario.Scenario.{Scenario}
 use Rattle.run_laws.specs.Audit.{Done, last_lines}
 use Rattle.journal_audit.specs.PastSections.{SumsUp}
-use Rattle.report_defs.specs.ReportText.{status_line, taps_text, threads_text}
+use Rattle.report_defs.specs.ReportText.{ending_text, threads_text}
 use Rattle.run_results.specs.Statuses.{status_number}
 use Rattle.report_text.specs.Writing.{Wrote}
 use Rattle.journal_audit.specs.Comparisons.{Comparison, change_in, untouched}
@@ -16,12 +16,12 @@ use Rattle.journal_audit.proofs.last.check_last.Goals.{After-write_last-written}
 
 held : (c : After-write_last-written)
     → Held c.write_last-written.new.sink c.args.cursor.now.rest c.write_last-written.result
-    (threads_text 0 c.args.threads.now c.as_slice.result.now ++ (taps_text 0 c.in_ok-taps.taps ++ status_line (status_number c.status.result)))
+    (threads_text 0 c.args.threads.now c.as_slice.result.now ++ ending_text c.in_ok-taps.taps (status_number c.status.result))
 held c = record {
   is =
       subst
       (λ (x : Comparison). Wrote (change_in x c.write_last-written.new.sink) c.write_last-written.result
-      (threads_text 0 c.args.threads.now c.as_slice.result.now ++ (taps_text 0 c.in_ok-taps.taps ++ status_line (status_number c.status.result))))
+      (threads_text 0 c.args.threads.now c.as_slice.result.now ++ ending_text c.in_ok-taps.taps (status_number c.status.result)))
       (c.new-compared.ensures ∙ ap untouched c.rest.ensures) c.write_last-written.ensures;
 }
 

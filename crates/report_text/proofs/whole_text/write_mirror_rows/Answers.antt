@@ -13,14 +13,7 @@ returns-in_err-write_mirror_threads g c =
     rw (q.1, q.2, ← c.as_slice.ensures)
     (both c.in_ok-write_all_parts.ensures (cut _ c.in_err-write_mirror_threads.ensures))
 
-pub returns-in_err-write_taps : goal.returns-in_err-write_taps
-returns-in_err-write_taps g c =
-    let q = err_from_is_err_and c.from_residual-in_err-write_taps.result c.from_residual-in_err-write_taps.ensures.1 in
-    rw (q.1, q.2, ← c.as_slice.ensures, ← c.as_slice-2.ensures)
-    (both c.in_ok-write_all_parts.ensures (both c.in_ok-write_mirror_threads.ensures (cut _ c.in_err-write_taps.ensures)))
-
 pub returns : goal.returns
 returns g c =
     rw (← c.as_slice.ensures, ← c.as_slice-2.ensures)
-    (both c.in_ok-write_all_parts.ensures (both c.in_ok-write_mirror_threads.ensures (both c.in_ok-write_taps.ensures
-    c.write_status_line.ensures)))
+    (both c.in_ok-write_all_parts.ensures (both c.in_ok-write_mirror_threads.ensures c.write_ending.ensures))

@@ -7,12 +7,13 @@ ghost use Rattle.machine_defs.specs.Mnemonics.{fields, fields_of, instr_with, in
 use nook_data::machine::{Form, Instr, Mnemonic};
 use std::marker::Model;
 
-/// A row of the table: an instruction's name, number and form, and whether it sets register a.
+/// A row of the table: an instruction's name, number and form, and whether it reads and whether it sets register a.
 #[derive(Clone, Copy)]
 pub struct InstructionRow {
     pub name: &'static str,
     pub number: u8,
     pub form: Form,
+    pub reads: bool,
     pub sets: bool,
 }
 
@@ -49,62 +50,101 @@ pub fn row_of(mnemonic: Mnemonic) -> InstructionRow
     ensures name { result.name.now ≡ (instruction_row mnemonic).name }
     ensures number { result.number ≡ (instruction_row mnemonic).number }
     ensures form { result.form ≡ (instruction_row mnemonic).form }
+    ensures reads { result.reads ≡ (instruction_row mnemonic).reads }
     ensures sets { result.sets ≡ (instruction_row mnemonic).sets }
 {
     match mnemonic {
         Mnemonic::Li => sets("LI", 0x01, Form::AImm),
-        Mnemonic::Lui => sets("LUI", 0x02, Form::AImm),
+        Mnemonic::Lui => changes("LUI", 0x02, Form::AImm),
         Mnemonic::Mov => sets("MOV", 0x03, Form::AB),
-        Mnemonic::Add => sets("ADD", 0x04, Form::AB),
-        Mnemonic::Sub => sets("SUB", 0x05, Form::AB),
-        Mnemonic::And => sets("AND", 0x06, Form::AB),
-        Mnemonic::Or => sets("OR", 0x07, Form::AB),
-        Mnemonic::Xor => sets("XOR", 0x08, Form::AB),
-        Mnemonic::Shl => sets("SHL", 0x09, Form::AB),
-        Mnemonic::Shr => sets("SHR", 0x0a, Form::AB),
+        Mnemonic::Add => changes("ADD", 0x04, Form::AB),
+        Mnemonic::Sub => changes("SUB", 0x05, Form::AB),
+        Mnemonic::And => changes("AND", 0x06, Form::AB),
+        Mnemonic::Or => changes("OR", 0x07, Form::AB),
+        Mnemonic::Xor => changes("XOR", 0x08, Form::AB),
+        Mnemonic::Shl => changes("SHL", 0x09, Form::AB),
+        Mnemonic::Shr => changes("SHR", 0x0a, Form::AB),
         Mnemonic::Addi => sets("ADDI", 0x0b, Form::ABImm),
         Mnemonic::Ld => sets("LD", 0x0c, Form::ABImm),
-        Mnemonic::St => row("ST", 0x0d, Form::ABImm),
+        Mnemonic::St => reads("ST", 0x0d, Form::ABImm),
         Mnemonic::Jmp => row("JMP", 0x0e, Form::Imm),
-        Mnemonic::Beq => row("BEQ", 0x0f, Form::ABImm),
-        Mnemonic::Bne => row("BNE", 0x10, Form::ABImm),
-        Mnemonic::Blt => row("BLT", 0x11, Form::ABImm),
+        Mnemonic::Beq => reads("BEQ", 0x0f, Form::ABImm),
+        Mnemonic::Bne => reads("BNE", 0x10, Form::ABImm),
+        Mnemonic::Blt => reads("BLT", 0x11, Form::ABImm),
         Mnemonic::Jal => sets("JAL", 0x12, Form::AImm),
-        Mnemonic::Jr => row("JR", 0x13, Form::A),
+        Mnemonic::Jr => reads("JR", 0x13, Form::A),
         Mnemonic::In => sets("IN", 0x14, Form::AImm),
-        Mnemonic::Out => row("OUT", 0x15, Form::AImm),
+        Mnemonic::Out => reads("OUT", 0x15, Form::AImm),
         Mnemonic::Kcall => row("KCALL", 0x16, Form::Imm),
-        Mnemonic::Ret => row("RET", 0x17, Form::A),
+        Mnemonic::Ret => reads("RET", 0x17, Form::A),
         Mnemonic::Fault => row("FAULT", 0x18, Form::Bare),
     }
 }
 
-/// The row of an instruction that sets register a.
+/// The row of an instruction that sets register a without reading it.
 fn sets(name: &'static str, number: u8, form: Form) -> InstructionRow
     ensures name { result.name.now ≡ name.now }
     ensures number { result.number ≡ number }
     ensures form { result.form ≡ form }
+    ensures reads { result.reads ≡ false }
     ensures sets { result.sets ≡ true }
 {
     InstructionRow {
         name,
         number,
         form,
+        reads: false,
         sets: true,
     }
 }
 
-/// The row of an instruction that sets no register.
-fn row(name: &'static str, number: u8, form: Form) -> InstructionRow
+/// The row of an instruction that reads register a and then sets it.
+fn changes(name: &'static str, number: u8, form: Form) -> InstructionRow
     ensures name { result.name.now ≡ name.now }
     ensures number { result.number ≡ number }
     ensures form { result.form ≡ form }
+    ensures reads { result.reads ≡ true }
+    ensures sets { result.sets ≡ true }
+{
+    InstructionRow {
+        name,
+        number,
+        form,
+        reads: true,
+        sets: true,
+    }
+}
+
+/// The row of an instruction that only reads register a.
+fn reads(name: &'static str, number: u8, form: Form) -> InstructionRow
+    ensures name { result.name.now ≡ name.now }
+    ensures number { result.number ≡ number }
+    ensures form { result.form ≡ form }
+    ensures reads { result.reads ≡ true }
     ensures sets { result.sets ≡ false }
 {
     InstructionRow {
         name,
         number,
         form,
+        reads: true,
+        sets: false,
+    }
+}
+
+/// The row of an instruction without registers.
+fn row(name: &'static str, number: u8, form: Form) -> InstructionRow
+    ensures name { result.name.now ≡ name.now }
+    ensures number { result.number ≡ number }
+    ensures form { result.form ≡ form }
+    ensures reads { result.reads ≡ false }
+    ensures sets { result.sets ≡ false }
+{
+    InstructionRow {
+        name,
+        number,
+        form,
+        reads: false,
         sets: false,
     }
 }

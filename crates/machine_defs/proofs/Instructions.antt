@@ -7,9 +7,17 @@ use native.Mathlib.Omega.{arith}
 use mathlib.Core.Path.{ap, subst, sym, ◌∙◌}
 use Rattle.std.proofs.lemmas.Bool.{and_parts, false≢true}
 use Rattle.std.proofs.lemmas.Option.{none-some, same_Some}
+use Rattle.std.proofs.Common.{not, bit_and, bit_or, bit_xor, ◌/◌, nat_lt}
+use Rattle.machine_defs.proofs.Setting.{both_not, got, input_over, input_same, jump_same, load_over, load_same, one_not, output_same}
+use Rattle.machine_defs.proofs.Setting.{put, put_again, put_over, put_same, store_same, two_same}
+use Rattle.machine_defs.specs.Devices.{input_of, output_of}
+use Rattle.machine_defs.specs.Execution.{Machine, crosses, executed, goes, past_output, r}
 use Rattle.machine_defs.specs.Machine.{a_field, b_field, decode_of, encode_of, has_no_other, imm_field, is_of_row}
 use Rattle.machine_defs.specs.Machine.{op_field, word_of}
 use Rattle.machine_defs.specs.Mnemonics.{Fields, fields, fields_of, form_of, instr_with, instruction_row, mnemonics}
+use Rattle.machine_defs.specs.Registers.{reads, set_registers, sets, setting, setting_after}
+use Rattle.nook_data.specs.declared.entries.Entry.{Entry}
+use Rattle.nook_data.specs.declared.machine.BurstEnd.TheVariants as ends
 use Rattle.nook_data.specs.declared.machine.Form.{Form}
 use Rattle.nook_data.specs.declared.machine.Form.TheVariants as form
 use Rattle.nook_data.specs.declared.machine.Instr.{Instr}
@@ -173,3 +181,75 @@ find_none p none = by_found (find p mnemonics) refl
 -- if none is found, no mnemonic passes the test
 pub none_passes : (p : Mnemonic → Bool) → find p mnemonics ≡ None → (m : Mnemonic) → p m ≡ true → ⊥
 none_passes p none m is = some_found p mnemonics ((instruction_row m).number - 1) m (listed m) is none
+
+-- ---- a register that an instruction does not use
+
+module _ (k v : ℕ) where
+  -- an instruction that neither reads nor sets the register
+  pub executed_same : (entries : List Entry) (m : Machine) (i : Instr) → reads i k ≡ false → sets i k ≡ false
+      → executed entries (setting k v m) i ≡ setting_after k v (executed entries m i)
+  executed_same entries m (instr.Li a imm) n o = put_same k v m a imm imm o refl
+  executed_same entries m (instr.Lui a imm) n o =
+      put_same k v m a _ _ o (ap (λ (x : ℕ). imm * 2 ^ 16 + x % 2 ^ 16) (got m.cpu.registers a k v n))
+  executed_same entries m (instr.Mov a b) n o = put_same k v m a _ _ o (got m.cpu.registers b k v n)
+  executed_same entries m (instr.Add a b) n o = two_same k v m a b (λ x y. (x + y) % 2 ^ 32) n o
+  executed_same entries m (instr.Sub a b) n o = two_same k v m a b (λ x y. (x + (2 ^ 32 - y)) % 2 ^ 32) n o
+  executed_same entries m (instr.And a b) n o = two_same k v m a b (λ x y. bit_and x y) n o
+  executed_same entries m (instr.Or a b) n o = two_same k v m a b (λ x y. bit_or x y) n o
+  executed_same entries m (instr.Xor a b) n o = two_same k v m a b (λ x y. bit_xor x y) n o
+  executed_same entries m (instr.Shl a b) n o = two_same k v m a b (λ x y. x * 2 ^ (y % 32) % 2 ^ 32) n o
+  executed_same entries m (instr.Shr a b) n o = two_same k v m a b (λ x y. x / 2 ^ (y % 32)) n o
+  executed_same entries m (instr.Addi a b imm) n o =
+      put_same k v m a _ _ o (ap (λ (x : ℕ). (x + imm) % 2 ^ 32) (got m.cpu.registers b k v n))
+  executed_same entries m (instr.Ld a b imm) n o =
+      load_same k v m a _ _ o (ap (λ (x : ℕ). (x + imm) % 2 ^ 32) (got m.cpu.registers b k v n))
+  executed_same entries m (instr.St a b imm) n o = store_same k v entries m a b imm n
+  executed_same entries m (instr.Jmp imm) n o = refl
+  executed_same entries m (instr.Beq a b imm) n o = jump_same k v m a b imm (λ x y. x == y) n
+  executed_same entries m (instr.Bne a b imm) n o = jump_same k v m a b imm (λ x y. not (x == y)) n
+  executed_same entries m (instr.Blt a b imm) n o = jump_same k v m a b imm (λ x y. nat_lt x y) n
+  executed_same entries m (instr.Jal a imm) n o =
+      ap (λ (xs : List ℕ). goes (record m { cpu = record { counter = imm; registers = xs } }))
+      (put m.cpu.registers a k ((m.cpu.counter + 1) % 2 ^ 32) v o)
+  executed_same entries m (instr.Jr a) n o =
+      ap (λ (x : ℕ). goes (record m { cpu = record { counter = x; registers = set_registers k v m.cpu.registers } })) (got m.cpu.registers a k v n)
+  executed_same entries m (instr.In a imm) n o = input_same k v m a imm (input_of imm m.device) o
+  executed_same entries m (instr.Out a imm) n o =
+      ap (λ (x : ℕ). past_output (setting k v m) imm (output_of imm x m.device)) (got m.cpu.registers a k v n)
+      ∙ output_same k v m imm (output_of imm (r m a) m.device)
+  executed_same entries m (instr.Kcall imm) n o = refl
+  executed_same entries m (instr.Ret a) n o =
+      ap (λ (x : ℕ). crosses (setting k v m) (ends.Reply x)) (got m.cpu.registers a k v n)
+  executed_same entries m instr.Fault n o = refl
+
+  -- an instruction that sets the register without reading it, and does not trap
+  pub executed_over : (entries : List Entry) (m : Machine) (i : Instr) → reads i k ≡ false → sets i k ≡ true
+      → (executed entries m i).crossing ≡ None → executed entries (setting k v m) i ≡ executed entries m i
+  executed_over entries m (instr.Li a imm) n o c = put_over k v m a imm imm o refl
+  executed_over entries m (instr.Lui a imm) n o c = absurd (one_not k v a n o)
+  executed_over entries m (instr.Mov a b) n o c = put_over k v m a _ _ o (got m.cpu.registers b k v n)
+  executed_over entries m (instr.Add a b) n o c = absurd (both_not k v a b n o)
+  executed_over entries m (instr.Sub a b) n o c = absurd (both_not k v a b n o)
+  executed_over entries m (instr.And a b) n o c = absurd (both_not k v a b n o)
+  executed_over entries m (instr.Or a b) n o c = absurd (both_not k v a b n o)
+  executed_over entries m (instr.Xor a b) n o c = absurd (both_not k v a b n o)
+  executed_over entries m (instr.Shl a b) n o c = absurd (both_not k v a b n o)
+  executed_over entries m (instr.Shr a b) n o c = absurd (both_not k v a b n o)
+  executed_over entries m (instr.Addi a b imm) n o c =
+      put_over k v m a _ _ o (ap (λ (x : ℕ). (x + imm) % 2 ^ 32) (got m.cpu.registers b k v n))
+  executed_over entries m (instr.Ld a b imm) n o c =
+      load_over k v m a _ _ o (ap (λ (x : ℕ). (x + imm) % 2 ^ 32) (got m.cpu.registers b k v n)) c
+  executed_over entries m (instr.Jal a imm) n o c =
+      ap (λ (xs : List ℕ). goes (record m { cpu = record { counter = imm; registers = xs } }))
+      (put_again m.cpu.registers a k ((m.cpu.counter + 1) % 2 ^ 32) v o)
+  executed_over entries m (instr.In a imm) n o c = input_over k v m a imm (input_of imm m.device) o c
+  executed_over entries m (instr.St a b imm) n o c = absurd cc
+  executed_over entries m (instr.Jmp imm) n o c = absurd cc
+  executed_over entries m (instr.Beq a b imm) n o c = absurd cc
+  executed_over entries m (instr.Bne a b imm) n o c = absurd cc
+  executed_over entries m (instr.Blt a b imm) n o c = absurd cc
+  executed_over entries m (instr.Jr a) n o c = absurd cc
+  executed_over entries m (instr.Out a imm) n o c = absurd cc
+  executed_over entries m (instr.Kcall imm) n o c = absurd cc
+  executed_over entries m (instr.Ret a) n o c = absurd cc
+  executed_over entries m instr.Fault n o c = absurd cc

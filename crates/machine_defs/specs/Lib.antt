@@ -4,6 +4,7 @@ pub mod Mnemonics
 pub mod Pages
 pub mod Execution
 pub mod Burst
+pub mod Registers
 pub mod BurstFaults
 pub mod Devices
 pub mod Entries

@@ -8,50 +8,61 @@ use Rattle.nook_data.specs.declared.machine.Instr.TheVariants as instr
 
 -- The instruction table. It defines how words are decoded and encoded, and how texts are assembled and disassembled.
 
--- a row: the instruction's name, number and form, whether it sets register a, and a function from operands to the
--- instruction; it ignores operands that the form does not have
+-- a row: the instruction's name, number and form, whether it reads and whether it sets register a, and a function from
+-- operands to the instruction; it ignores operands that the form does not have
 pub record InstructionRow : Type 0 where
   pub name : List ℕ
   pub number : ℕ
   pub form : Form
+  pub reads : Bool
   pub sets : Bool
   pub of_operands : ℕ → ℕ → ℕ → Instr
 
--- the row of an instruction that sets register a
+-- the row of an instruction that sets register a without reading it
 abbrev pub sets : List ℕ → ℕ → Form → (ℕ → ℕ → ℕ → Instr) → InstructionRow
 sets name number operands make =
-    record { name = name; number = number; form = operands; sets = true; of_operands = make }
+    record { name = name; number = number; form = operands; reads = false; sets = true; of_operands = make }
 
--- the row of an instruction that sets no register
+-- the row of an instruction that reads register a and then sets it
+abbrev pub changes : List ℕ → ℕ → Form → (ℕ → ℕ → ℕ → Instr) → InstructionRow
+changes name number operands make =
+    record { name = name; number = number; form = operands; reads = true; sets = true; of_operands = make }
+
+-- the row of an instruction that only reads register a
+abbrev pub reads : List ℕ → ℕ → Form → (ℕ → ℕ → ℕ → Instr) → InstructionRow
+reads name number operands make =
+    record { name = name; number = number; form = operands; reads = true; sets = false; of_operands = make }
+
+-- the row of an instruction without registers
 abbrev pub row : List ℕ → ℕ → Form → (ℕ → ℕ → ℕ → Instr) → InstructionRow
 row name number operands make =
-    record { name = name; number = number; form = operands; sets = false; of_operands = make }
+    record { name = name; number = number; form = operands; reads = false; sets = false; of_operands = make }
 
 -- the table
 abbrev pub instruction_row : Mnemonic → InstructionRow
 instruction_row mnemonic.Li = sets (codes "LI") 0x01 form.AImm (λ a b imm. instr.Li a imm)
-instruction_row mnemonic.Lui = sets (codes "LUI") 0x02 form.AImm (λ a b imm. instr.Lui a imm)
+instruction_row mnemonic.Lui = changes (codes "LUI") 0x02 form.AImm (λ a b imm. instr.Lui a imm)
 instruction_row mnemonic.Mov = sets (codes "MOV") 0x03 form.AB (λ a b imm. instr.Mov a b)
-instruction_row mnemonic.Add = sets (codes "ADD") 0x04 form.AB (λ a b imm. instr.Add a b)
-instruction_row mnemonic.Sub = sets (codes "SUB") 0x05 form.AB (λ a b imm. instr.Sub a b)
-instruction_row mnemonic.And = sets (codes "AND") 0x06 form.AB (λ a b imm. instr.And a b)
-instruction_row mnemonic.Or = sets (codes "OR") 0x07 form.AB (λ a b imm. instr.Or a b)
-instruction_row mnemonic.Xor = sets (codes "XOR") 0x08 form.AB (λ a b imm. instr.Xor a b)
-instruction_row mnemonic.Shl = sets (codes "SHL") 0x09 form.AB (λ a b imm. instr.Shl a b)
-instruction_row mnemonic.Shr = sets (codes "SHR") 0x0a form.AB (λ a b imm. instr.Shr a b)
+instruction_row mnemonic.Add = changes (codes "ADD") 0x04 form.AB (λ a b imm. instr.Add a b)
+instruction_row mnemonic.Sub = changes (codes "SUB") 0x05 form.AB (λ a b imm. instr.Sub a b)
+instruction_row mnemonic.And = changes (codes "AND") 0x06 form.AB (λ a b imm. instr.And a b)
+instruction_row mnemonic.Or = changes (codes "OR") 0x07 form.AB (λ a b imm. instr.Or a b)
+instruction_row mnemonic.Xor = changes (codes "XOR") 0x08 form.AB (λ a b imm. instr.Xor a b)
+instruction_row mnemonic.Shl = changes (codes "SHL") 0x09 form.AB (λ a b imm. instr.Shl a b)
+instruction_row mnemonic.Shr = changes (codes "SHR") 0x0a form.AB (λ a b imm. instr.Shr a b)
 instruction_row mnemonic.Addi = sets (codes "ADDI") 0x0b form.ABImm (λ a b imm. instr.Addi a b imm)
 instruction_row mnemonic.Ld = sets (codes "LD") 0x0c form.ABImm (λ a b imm. instr.Ld a b imm)
-instruction_row mnemonic.St = row (codes "ST") 0x0d form.ABImm (λ a b imm. instr.St a b imm)
+instruction_row mnemonic.St = reads (codes "ST") 0x0d form.ABImm (λ a b imm. instr.St a b imm)
 instruction_row mnemonic.Jmp = row (codes "JMP") 0x0e form.Imm (λ a b imm. instr.Jmp imm)
-instruction_row mnemonic.Beq = row (codes "BEQ") 0x0f form.ABImm (λ a b imm. instr.Beq a b imm)
-instruction_row mnemonic.Bne = row (codes "BNE") 0x10 form.ABImm (λ a b imm. instr.Bne a b imm)
-instruction_row mnemonic.Blt = row (codes "BLT") 0x11 form.ABImm (λ a b imm. instr.Blt a b imm)
+instruction_row mnemonic.Beq = reads (codes "BEQ") 0x0f form.ABImm (λ a b imm. instr.Beq a b imm)
+instruction_row mnemonic.Bne = reads (codes "BNE") 0x10 form.ABImm (λ a b imm. instr.Bne a b imm)
+instruction_row mnemonic.Blt = reads (codes "BLT") 0x11 form.ABImm (λ a b imm. instr.Blt a b imm)
 instruction_row mnemonic.Jal = sets (codes "JAL") 0x12 form.AImm (λ a b imm. instr.Jal a imm)
-instruction_row mnemonic.Jr = row (codes "JR") 0x13 form.A (λ a b imm. instr.Jr a)
+instruction_row mnemonic.Jr = reads (codes "JR") 0x13 form.A (λ a b imm. instr.Jr a)
 instruction_row mnemonic.In = sets (codes "IN") 0x14 form.AImm (λ a b imm. instr.In a imm)
-instruction_row mnemonic.Out = row (codes "OUT") 0x15 form.AImm (λ a b imm. instr.Out a imm)
+instruction_row mnemonic.Out = reads (codes "OUT") 0x15 form.AImm (λ a b imm. instr.Out a imm)
 instruction_row mnemonic.Kcall = row (codes "KCALL") 0x16 form.Imm (λ a b imm. instr.Kcall imm)
-instruction_row mnemonic.Ret = row (codes "RET") 0x17 form.A (λ a b imm. instr.Ret a)
+instruction_row mnemonic.Ret = reads (codes "RET") 0x17 form.A (λ a b imm. instr.Ret a)
 instruction_row mnemonic.Fault = row (codes "FAULT") 0x18 form.Bare (λ a b imm. instr.Fault)
 
 -- all mnemonics, in the order of their numbers

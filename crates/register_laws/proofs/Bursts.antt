@@ -10,7 +10,8 @@ use Rattle.machine_defs.specs.Execution.{Executed, Machine, turn}
 use Rattle.front_laws.specs.Fronts.{put_after}
 use Rattle.front_laws.proofs.Past.{burst_after, burst_is, by_going}
 use Rattle.front_laws.proofs.Striking.{going_after, one_turn_is, past_crossing, turn_after, turn_by}
-use Rattle.register_laws.specs.Uses.{instr_at, instrs_from, reads, reg_at, sets, setting, setting_after}
+use Rattle.machine_defs.specs.Registers.{reads, sets, setting, setting_after}
+use Rattle.register_laws.specs.Uses.{instr_at, instrs_from, reg_at}
 use Rattle.register_laws.proofs.Setting.{turn_over, turn_same}
 
 -- the burst's instructions, by what one of them leaves

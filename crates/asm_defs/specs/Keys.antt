@@ -1,4 +1,6 @@
-use Rattle.std.specs.Prelude.{ℕ, List, [], ◌∷◌, codes}
+use Rattle.std.specs.Prelude.{ℕ, ◌+◌, if◌then◌else◌, List, [], ◌∷◌, codes}
+use denote.Enum.Bare.{sameb}
+use Rattle.asm_defs.specs.contracts.keys.Key.{the_type}
 use Rattle.nook_data.specs.Types.{Class}
 use Rattle.asm_defs.specs.Types.{Key}
 use Rattle.nook_data.specs.declared.classes.Class.TheVariants as class
@@ -61,3 +63,8 @@ abbrev pub entry_keys : Class → List Key
 entry_keys class.Block = key.Init ∷ key.Read ∷ key.Write ∷ key.Get ∷ key.Set ∷ []
 entry_keys class.Net = key.Init ∷ key.Send ∷ key.Poll ∷ key.Get ∷ key.Set ∷ []
 entry_keys class.Sound = key.Init ∷ key.Open ∷ key.Play ∷ key.Close ∷ key.Get ∷ key.Set ∷ []
+
+-- the index of a key in a list whose first index is given, or the index after its last
+abbrev pub index_among : ℕ → Key → List Key → ℕ
+index_among index key [] = index
+index_among index key (known ∷ more) = if sameb the_type known key then index else index_among (index + 1) key more

@@ -1,9 +1,9 @@
 //! The keys of the formats' objects with their texts, and the entries of each class. All code that reads or writes the
 //! formats uses this one table.
 
-ghost use Rattle.std.specs.Prelude.{◌≡◌, length};
+ghost use Rattle.std.specs.Prelude.{◌≡◌, ◌<◌, ◌^◌, length};
 ghost use Rattle.nook_data.specs.Classes.{entry_count};
-ghost use Rattle.asm_defs.specs.Keys.{entry_keys, key_text};
+ghost use Rattle.asm_defs.specs.Keys.{entry_keys, index_among, key_text};
 
 use nook_data::classes::Class;
 
@@ -135,4 +135,24 @@ pub fn entry_keys(class: Class) -> &'static [Key]
             Key::Set,
         ],
     }
+}
+
+/// The index of an entry in the class's order, or the number of entries if the class lacks it.
+pub fn entry_index(class: Class, entry: Key) -> u32
+    ensures { result ≡ index_among 0 entry (entry_keys class) }
+{
+    index_in(entry_keys(class), entry)
+}
+
+/// The index of an entry among some entries, or their number.
+fn index_in(entries: &[Key], entry: Key) -> u32
+    requires { length entries.now < 2 ^ 32 }
+    ensures { result ≡ index_among 0 entry entries.now }
+{
+    for index in 0..entries.len() {
+        if entries[index] == entry {
+            return index as u32;
+        }
+    }
+    entries.len() as u32
 }

@@ -3,6 +3,7 @@
 ghost use Rattle.std.specs.Prelude.{◌≡◌};
 ghost use Rattle.nook_data.specs.Classes.{entry_address, get_number, init_address, open_point, set_position};
 
+use asm_defs::keys::{Key, entry_index};
 use nook_data::calls::Op;
 use nook_data::classes::Class;
 
@@ -11,10 +12,13 @@ pub fn entry_address(class: Class, op: &Op) -> u32
     ensures { result ≡ entry_address class op.now }
 {
     match op {
-        Op::Read { .. } | Op::Send { .. } => 1,
-        Op::Write { .. } | Op::Recv | Op::Play { .. } => 2,
+        Op::Read { .. } => entry_index(Class::Block, Key::Read),
+        Op::Write { .. } => entry_index(Class::Block, Key::Write),
+        Op::Send { .. } => entry_index(Class::Net, Key::Send),
+        Op::Recv => entry_index(Class::Net, Key::Poll),
         Op::Open => open_point(),
-        Op::Close => 3,
+        Op::Play { .. } => entry_index(Class::Sound, Key::Play),
+        Op::Close => entry_index(Class::Sound, Key::Close),
         Op::Get { .. } => get_number(class),
         Op::Set { .. } => set_position(class),
     }
@@ -24,32 +28,26 @@ pub fn entry_address(class: Class, op: &Op) -> u32
 pub fn init_address() -> u32
     ensures { result ≡ init_address }
 {
-    0
+    entry_index(Class::Block, Key::Init)
 }
 
 /// The index of open in class sound.
 pub fn open_point() -> u32
     ensures { result ≡ open_point }
 {
-    1
+    entry_index(Class::Sound, Key::Open)
 }
 
 /// The index of get.
 pub fn get_number(class: Class) -> u32
     ensures { result ≡ get_number class }
 {
-    match class {
-        Class::Block | Class::Net => 3,
-        Class::Sound => 4,
-    }
+    entry_index(class, Key::Get)
 }
 
 /// The index of set.
 pub fn set_position(class: Class) -> u32
     ensures { result ≡ set_position class }
 {
-    match class {
-        Class::Block | Class::Net => 4,
-        Class::Sound => 5,
-    }
+    entry_index(class, Key::Set)
 }

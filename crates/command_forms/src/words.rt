@@ -50,6 +50,15 @@ pub enum WaitingForm {
     Mirror,
 }
 
+// The words that more than one subcommand has.
+const GEN: &str = "gen";
+
+const GUARD: &str = "guard";
+
+const RUN: &str = "run";
+
+const SCENARIO: &str = "scenario";
+
 /// The greatest number of a generated scenario.
 const MOST_GENERATED: u32 = 256;
 
@@ -87,7 +96,7 @@ fn form_of_word(word: &str) -> Option<Form>
     ensures found { IfSome result (IsForm (word.now ∷ [])) }
     ensures none { IfNone result (IsNoForm (word.now ∷ [])) }
 {
-    if word == "run" {
+    if word == RUN {
         Some(Form::Run)
     } else if word == "asm" {
         Some(Form::Asm)
@@ -101,7 +110,7 @@ fn form_of_word(word: &str) -> Option<Form>
         Some(Form::Mirror)
     } else if word == "list" {
         Some(Form::List)
-    } else if word == "guard" {
+    } else if word == GUARD {
         Some(Form::Guard)
     } else if word == "explore" {
         Some(Form::Explore)
@@ -119,11 +128,11 @@ fn form_of_two(word: &str, second: &str) -> Option<Form>
     ensures found { IfSome result (IsForm (word.now ∷ second.now ∷ [])) }
     ensures none { IfNone result (IsNoForm (word.now ∷ second.now ∷ [])) }
 {
-    if word == "run" {
+    if word == RUN {
         threads_form(second)
-    } else if word == "guard" {
+    } else if word == GUARD {
         guarded_form(second)
-    } else if word == "gen" {
+    } else if word == GEN {
         generated_form(second)
     } else {
         None
@@ -147,7 +156,7 @@ fn guarded_form(second: &str) -> Option<Form>
     ensures found { IfSome result (IsForm (codes "guard" ∷ second.now ∷ [])) }
     ensures none { IfNone result (IsNoForm (codes "guard" ∷ second.now ∷ [])) }
 {
-    if second == "scenario" {
+    if second == SCENARIO {
         Some(Form::GuardScenario)
     } else {
         None
@@ -159,7 +168,7 @@ fn form_of_three(word: &str, second: &str, third: &str) -> Option<Form>
     ensures found { IfSome result (IsForm (word.now ∷ second.now ∷ third.now ∷ [])) }
     ensures none { IfNone result (IsNoForm (word.now ∷ second.now ∷ third.now ∷ [])) }
 {
-    if word == "gen" && third == "scenario" {
+    if word == GEN && third == SCENARIO {
         scenario_form(second)
     } else if word == "trace" {
         trace_form(second, third)

@@ -9,6 +9,7 @@ ghost use Rattle.contract_monitor.specs.Keeping.{kept_invoke, samples_lost, send
 
 use crate::calls::{Call, Change, change_calls, close_call, close_calls, find_call, more};
 use crate::known::Known;
+use machine_defs::service_names::is_net_rx;
 use nook_data::calls::{Answer, Op};
 use nook_data::lists::{TryCopy, Words};
 use nook_data::memory::NoMemory;
@@ -204,7 +205,7 @@ fn handed_result(end: &End) -> Option<u32>
             service,
             answer,
             ..
-        } => { if *service == 6 { *answer } else { None } }
+        } => { if is_net_rx(*service) { *answer } else { None } }
         _ => None,
     }
 }

@@ -14,6 +14,7 @@ use crate::clauses::unless;
 use crate::known::{Known, in_driver, in_ring};
 use crate::watching::{is_replayed, register};
 use class_table::defaults_of;
+use machine_defs::service_names::is_net_rx;
 use nook_data::calls::{Answer, Op};
 use nook_data::clause::Clause;
 use nook_data::lists::{TryCopy, Words};
@@ -63,7 +64,7 @@ impl Known {
                 moved,
                 ..
             } => {
-                if *service == 6 && given.is_some() {
+                if is_net_rx(*service) && given.is_some() {
                     self.see_handed(call, moved)
                 } else {
                     Ok(None)

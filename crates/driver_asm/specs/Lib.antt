@@ -3,3 +3,4 @@ pub mod Addresses
 pub mod Answers
 pub mod Names
 pub mod Listed
+pub mod Directives

@@ -61,7 +61,17 @@ fn members(
         (member (codes "entries") (view entries)
         (member (codes "text") (view text) no_members))))) }
 {
-    json!(in alloc; {"class": class, "data": initial, "entries": entries, "text": text})
+    let mut made = Map::new(alloc);
+    put(
+        &mut made,
+        alloc,
+        key_text(Key::Class),
+        json!(in alloc; class)?,
+    )?;
+    put(&mut made, alloc, key_text(Key::Data), initial)?;
+    put(&mut made, alloc, key_text(Key::Entries), entries)?;
+    put(&mut made, alloc, key_text(Key::Text), text)?;
+    Ok(Value::Object(made))
 }
 
 /// Words as strings of eight digits.

@@ -3,6 +3,7 @@
 //! A text is read in two passes over its lines: the first finds the labels, the second makes the image.
 #![tactic(auto)]
 
+mod directives;
 mod draft;
 mod entries;
 mod error;

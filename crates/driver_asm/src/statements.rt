@@ -17,6 +17,7 @@ ghost use Rattle.asm_defs.specs.declared.assembler.Statement.TheVariants as stat
 ghost use Rattle.std.specs.Option.{option_map_or};
 ghost use Rattle.driver_asm.specs.Lexing.{has_registers};
 
+use crate::directives::{Directive, directive_named};
 use crate::entries::entry_address;
 use crate::labels::LabelTable;
 use crate::mnemonics::{form_of, mnemonic_named};
@@ -172,7 +173,7 @@ fn entry_statement(
 }
 
 /// One of the five directives and its operands.
-#[tactic(auto, unfolding(asm_defs::specs::AsmLines::directive_statement))]
+#[tactic(auto, unfolding(asm_defs::specs::AsmLines::directive_statement, crate::specs::Directives::directive_named),)]
 fn directive_statement(
     labels: &LabelTable,
     class: Option<Class>,
@@ -182,19 +183,13 @@ fn directive_statement(
     ensures says { result ≡ directive_statement (first_of labels.now) class directive.now rest.now }
     ensures registers { IfOk result (λ says. has_registers says ≡ true) }
 {
-    let name = directive.bytes();
-    if name == b".class".as_slice() {
-        class_statement(rest)
-    } else if name == b".entry".as_slice() {
-        entry_statement(labels, class, rest)
-    } else if name == b".text".as_slice() {
-        bare_statement(Statement::Section(Section::Text), rest)
-    } else if name == b".data".as_slice() {
-        bare_statement(Statement::Section(Section::Data), rest)
-    } else if name == b".word".as_slice() {
-        word_statement(labels, rest)
-    } else {
-        Err(AsmKind::WrongOperands)
+    match directive_named(directive.bytes()) {
+        Some(Directive::Class) => class_statement(rest),
+        Some(Directive::Entry) => entry_statement(labels, class, rest),
+        Some(Directive::Text) => bare_statement(Statement::Section(Section::Text), rest),
+        Some(Directive::Data) => bare_statement(Statement::Section(Section::Data), rest),
+        Some(Directive::Word) => word_statement(labels, rest),
+        None => Err(AsmKind::WrongOperands),
     }
 }
 

@@ -10,6 +10,7 @@ ghost use Rattle.nook_data.specs.Valid.{IsValidImage};
 ghost use Rattle.asm_defs.specs.Keys.{entry_keys};
 ghost use Rattle.machine_defs.specs.Mnemonics.{fields_of};
 
+use crate::directives::{Directive, directive_text};
 use crate::mnemonics::{form_of, mnemonic_text};
 use asm_defs::keys::{Key, entry_keys, key_text};
 use driver_isa::decode;
@@ -54,7 +55,7 @@ fn push_class(text: &mut String, class: Class) -> Result<(), NoMemory>
     ensures { OnOk result
         (string_bytes text.new ≡ string_bytes text.old ++ line_text (class_tokens class)) }
 {
-    text.push_str(".class")?;
+    text.push_str(directive_text(Directive::Class))?;
     push_token(text, class_text(class))?;
     text.push_str("\n")?;
     Ok(())
@@ -111,7 +112,7 @@ fn push_entry(text: &mut String, name: &str, address: Word) -> Result<(), NoMemo
     ensures { OnOk result (string_bytes text.new
         ≡ string_bytes text.old ++ line_text (codes ".entry" ∷ name.now ∷ decimal address ∷ [])) }
 {
-    text.push_str(".entry")?;
+    text.push_str(directive_text(Directive::Entry))?;
     push_token(text, name)?;
     push_number(text, address)?;
     text.push_str("\n")?;
@@ -232,7 +233,7 @@ fn push_word_body(text: &mut String, word: Word) -> Result<(), NoMemory>
     ensures { OnOk result
         (string_bytes text.new ≡ string_bytes text.old ++ line_body (word_tokens word)) }
 {
-    text.push_str(".word")?;
+    text.push_str(directive_text(Directive::Word))?;
     push_number(text, word)
 }
 
@@ -244,7 +245,8 @@ fn push_initial_words(text: &mut String, words: &[Word]) -> Result<(), NoMemory>
     if words.is_empty() {
         return Ok(());
     }
-    text.push_str(".data\n")?;
+    text.push_str(directive_text(Directive::Data))?;
+    text.push_str("\n")?;
     push_words(text, words)
 }
 

@@ -9,3 +9,4 @@ pub mod BurstFaults
 pub mod Devices
 pub mod Entries
 pub mod Services
+pub mod ServiceNames

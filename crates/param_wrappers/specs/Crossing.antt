@@ -1,4 +1,6 @@
 use Rattle.std.specs.Prelude.{ℕ, ◌+◌, ◌&&◌, nat_le, if◌then◌else◌, Bool, true, Option, Some, None, List, slice_set}
+use Rattle.std.specs.Prelude.{Result, Ok, Err}
+use Rattle.nook_data.specs.declared.machine.BadParam.{BadParam}
 use Rattle.nook_data.specs.declared.machine.Service.{Service}
 use Rattle.nook_data.specs.declared.machine.Service.TheVariants as service
 use Rattle.nook_data.specs.declared.limits.TheConstants.{MOST_FRAME_WORDS}
@@ -32,3 +34,8 @@ can_serve (service.GiveBack object) = nat_le object LAST_OBJECT
 can_serve (service.NetRx start len) = nat_le len MOST_FRAME_WORDS && nat_le (start + len) MEMORY_WORDS
 can_serve service.Log = true
 can_serve service.Yield = true
+
+-- the answer to the service of a number: the service, or the argument that fails
+abbrev pub numbered : ℕ → Result Service ℕ → Result Service BadParam
+numbered number (Ok s) = Ok s
+numbered number (Err argument) = Err (record { service = number; argument = argument })

@@ -158,13 +158,15 @@ word_low frames text initial k low = rw (table_low (k / 64) (omega arith)) refl
 word_high : (table : List Bool) (frames text initial : List ℕ) (k : ℕ) → IsFramed table frames → 7360 ≤ k → k < 8192 → word_at table frames text initial k ≡ get_or frames k 0
 word_high table frames text initial k f high within = rw (f.objects (k / 64) (omega arith) (omega arith)) refl
 
-pub shown_opening : (frames : List ℕ) → frames ≡ opening_memory [] → shown opening_table frames [] [] ≡ opening_memory []
-shown_opening frames begun =
-    let size : length frames ≡ 8192 = ap length begun ∙ length-opening in
+pub shown_begun : (frames : List ℕ) → length frames ≡ 8192 → ((k : ℕ) → 7360 ≤ k → k < 8192 → get_or frames k 0 ≡ get_or (opening_memory []) k 0) → shown opening_table frames [] [] ≡ opening_memory []
+shown_begun frames size begun =
     shown_by opening_table frames [] [] (opening_memory []) length-opening (λ k lt. elim (cases_lt k 7360) [
       | inl low ↦ low_zero k low ∙ sym (word_low frames [] [] k low ∙ image_none k)
-      | inr high ↦ ap (λ xs. get_or xs k 0) (sym begun) ∙ sym (word_high opening_table frames [] [] k (framed_opening frames size) high lt)
+      | inr high ↦ sym (begun k high lt) ∙ sym (word_high opening_table frames [] [] k (framed_opening frames size) high lt)
     ])
+
+pub shown_opening : (frames : List ℕ) → frames ≡ opening_memory [] → shown opening_table frames [] [] ≡ opening_memory []
+shown_opening frames begun = shown_begun frames (ap length begun ∙ length-opening) (λ k high lt. ap (λ xs. get_or xs k 0) begun)
 
 -- a load
 

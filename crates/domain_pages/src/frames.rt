@@ -303,6 +303,24 @@ pub fn opening_frames(alloc: Global) -> Result<Vec<Word>, NoMemory>
     Ok(frames)
 }
 
+/// Brings the frames of the kernel objects into their initial state: each is zeros after the object's number.
+pub fn renew_objects(frames: &mut [Word])
+    requires { length frames.old ≡ MEMORY_WORDS }
+    ensures size { length frames.new ≡ MEMORY_WORDS }
+    ensures objects { (k : ℕ) → BUFFERS_END ≤ k → k < MEMORY_WORDS
+        → slice_index frames.new k ≡ slice_index (opening_memory []) k }
+{
+    write_all(
+        frames,
+        BUFFERS_END as usize,
+        &[],
+        (OBJECT_WORDS * OBJECTS) as usize,
+    );
+    for object in 1..OBJECTS {
+        frames[(BUFFERS_END + OBJECT_WORDS * object) as usize] = object;
+    }
+}
+
 /// The 64 words of a page's frame.
 pub fn frame_of(frames: &[Word], page: usize) -> &[Word]
     requires page { page < PAGES }

@@ -8,7 +8,9 @@ ghost use Rattle.machine_defs.specs.Views.PageMap.{pages_loaded};
 ghost use Rattle.domain_pages.specs.Frames.{with_own};
 
 use crate::decoding::{decode_range, put_decoded, put_text};
-use crate::frames::{Span, end_after, opening_frames, opening_table, put, put_all, word_at};
+use crate::frames::{
+    Span, end_after, opening_frames, opening_table, put, put_all, renew_objects, word_at,
+};
 use crate::packed::{PackedPages, packed_frames, unpack_frames};
 use driver_isa::{Decoded, decoded_of, instr_of};
 use nook_data::limits::CONTEXTS;
@@ -79,6 +81,33 @@ impl PageMap {
             frames,
             lent: [false; CONTEXTS],
         })
+    }
+
+    /// The map of a new domain, as `new` makes it, in the memory of one that is no longer needed.
+    pub fn renewed(self) -> PageMap
+        ensures { result ≡ opening_pages }
+    {
+        let PageMap {
+            alloc,
+            mut text,
+            mut decoded,
+            text_end,
+            mut frames,
+            ..
+        } = self;
+        // Without frames the pages of the driver show the text, which is made zeros, and no initial words.
+        put_text(&mut text, &mut decoded, &[], text_end);
+        renew_objects(&mut frames);
+        PageMap {
+            alloc,
+            text,
+            decoded,
+            text_end: 0,
+            initial: Words::new(alloc),
+            table: opening_table(),
+            frames,
+            lent: [false; CONTEXTS],
+        }
     }
 
     /// The word at an address; `None` exactly if the address exceeds 8,191.

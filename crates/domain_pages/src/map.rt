@@ -9,7 +9,8 @@ ghost use Rattle.domain_pages.specs.Frames.{with_own};
 
 use crate::decoding::{decode_range, put_decoded, put_text};
 use crate::frames::{
-    Span, end_after, opening_frames, opening_table, put, put_all, renew_objects, word_at,
+    Span, are_framed, end_after, opening_frames, opening_table, put, put_all, renew_objects,
+    word_at, words_of_frames,
 };
 use crate::packed::{PackedPages, packed_frames, unpack_frames};
 use driver_isa::{Decoded, decoded_of, instr_of};
@@ -227,6 +228,22 @@ impl PageMap {
 
     /// Reads `count` words from an address on, into the memory of `room`, which has room for them.
     pub fn words(&self, start: u32, count: u32, room: Room<Word>) -> Words
+        requires within { start + count ≤ MEMORY_WORDS }
+        requires room { count ≤ room }
+        ensures words { result ≡ slice_range self.now.words start (start + count) }
+        ensures len { length result ≡ count }
+    {
+        let (first, len) = (start as usize, count as usize);
+        // Kernel objects, and buffers that a driver filled, have frames.
+        if are_framed(&self.table, first, len) {
+            words_of_frames(&self.frames, first, len, room)
+        } else {
+            self.shown_words(start, count, room)
+        }
+    }
+
+    /// Reads `count` words from an address on, each from its frame or from the image.
+    fn shown_words(&self, start: u32, count: u32, room: Room<Word>) -> Words
         requires within { start + count ≤ MEMORY_WORDS }
         requires room { count ≤ room }
         ensures words { result ≡ slice_range self.now.words start (start + count) }

@@ -4,3 +4,4 @@ pub mod Rights
 pub mod Shown
 pub mod Texts
 pub mod Decoded
+pub mod Renewed

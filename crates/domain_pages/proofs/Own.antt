@@ -13,6 +13,13 @@ has_between start count page some = grind arith
 pub has_here : (start count k : ℕ) → start ≤ k → k < start + count → has_some start count (k / 64) ≡ true
 has_here start count k low high = grind arith
 
+page_before : (first page end : ℕ) → (nat_le first page && nat_lt page end) ≡ true → page < end
+page_before first page end is = grind arith
+
+-- the page of one of the words is before the end of the pages
+pub before_end : (start count end k : ℕ) → ((page : ℕ) → has_some start count page ≡ (nat_le (start / 64) page && nat_lt page end)) → start ≤ k → k < start + count → k / 64 < end
+before_end start count end k pages low high = page_before (start / 64) (k / 64) end (sym (pages (k / 64)) ∙ has_here start count k low high)
+
 -- which pages have a frame in the table now: those from `first` on and below `end`, and those that had one before
 abbrev pub AreOwned : List Bool → List Bool → ℕ → ℕ → Type 0
 AreOwned old now first end =

@@ -1,7 +1,7 @@
 -- How the words that a page map shows follow from its frames, its table and its image.
 use Rattle.std.proofs.Common.{◌≡◌, ◌≢◌, ◌⊎◌, inl, inr, ℕ, suc, ◌+◌, ◌-◌, ◌*◌, ◌/◌, ◌<◌, ◌≤◌, Bool, true, false, List, [], ◌∷◌, ◌++◌, length, get_or, set, take, drop, replicate, slice_index, slice_index_or, slice_range, arith, refl, sym, ap, ◌∙◌, append_assoc}
 use Rattle.std.proofs.lemmas.Bool.{cases_eq, cases_lt}
-use Rattle.std.proofs.lemmas.Grind.{common_steps}
+use Rattle.std.proofs.lemmas.Grind.{common_steps, same_number_lists}
 use Rattle.std.proofs.lemmas.List.{get_or-set_same, get_or-set_other, get_or-drop, get_or-take, get_or_append_left, get_or-append_right, get_or-replicate, get_or_past, length-set, length-replicate, take-set-le, length-take, set_past, length-append, length-drop, length-take-le}
 use Rattle.std.specs.Global.{Vec}
 use Rattle.std.specs.Vec.{with_items}
@@ -158,13 +158,15 @@ word_low frames text initial k low = rw (table_low (k / 64) (omega arith)) refl
 word_high : (table : List Bool) (frames text initial : List ℕ) (k : ℕ) → IsFramed table frames → 7360 ≤ k → k < 8192 → word_at table frames text initial k ≡ get_or frames k 0
 word_high table frames text initial k f high within = rw (f.objects (k / 64) (omega arith) (omega arith)) refl
 
-pub shown_opening : (frames : List ℕ) → frames ≡ opening_memory [] → shown opening_table frames [] [] ≡ opening_memory []
-shown_opening frames begun =
-    let size : length frames ≡ 8192 = ap length begun ∙ length-opening in
+pub shown_begun : (frames : List ℕ) → length frames ≡ 8192 → ((k : ℕ) → 7360 ≤ k → k < 8192 → get_or frames k 0 ≡ get_or (opening_memory []) k 0) → shown opening_table frames [] [] ≡ opening_memory []
+shown_begun frames size begun =
     shown_by opening_table frames [] [] (opening_memory []) length-opening (λ k lt. elim (cases_lt k 7360) [
       | inl low ↦ low_zero k low ∙ sym (word_low frames [] [] k low ∙ image_none k)
-      | inr high ↦ ap (λ xs. get_or xs k 0) (sym begun) ∙ sym (word_high opening_table frames [] [] k (framed_opening frames size) high lt)
+      | inr high ↦ sym (begun k high lt) ∙ sym (word_high opening_table frames [] [] k (framed_opening frames size) high lt)
     ])
+
+pub shown_opening : (frames : List ℕ) → frames ≡ opening_memory [] → shown opening_table frames [] [] ≡ opening_memory []
+shown_opening frames begun = shown_begun frames (ap length begun ∙ length-opening) (λ k high lt. ap (λ xs. get_or xs k 0) begun)
 
 -- a load
 
@@ -317,3 +319,30 @@ pub range_more : (memory : List ℕ) (start i : ℕ) → start + i < length memo
 range_more memory start i within =
     let next : start + i + 1 ≡ start + (i + 1) = omega arith in
     sym (between_more memory start (start + i) 0 (omega arith) within) ∙ ap (slice_range memory start) next
+
+-- words whose pages have frames
+
+range_length : (xs : List ℕ) (start end : ℕ) → end ≤ length xs → length (slice_range xs start end) ≡ end - start
+range_length xs start end within = length-take-le (end - start) (drop start xs) (omega (arith, length-drop start xs, within))
+
+range_at : (xs : List ℕ) (start end k : ℕ) → k < end - start → get_or (slice_range xs start end) k 0 ≡ get_or xs (start + k) 0
+range_at xs start end k low = get_or-take (end - start) (drop start xs) k 0 low ∙ get_or-drop start xs k 0
+
+pub range_framed : (table : List Bool) (frames text initial : List ℕ) (start end : ℕ) → end ≤ 8192 → length frames ≡ 8192
+    → ((k : ℕ) → start ≤ k → k < end → slice_index_or table (k / 64) false ≡ true)
+    → slice_range frames start end ≡ slice_range (shown table frames text initial) start end
+range_framed table frames text initial start end within size framed =
+    let words = shown table frames text initial in
+    let long : length words ≡ 8192 = length-shown table frames text initial in
+    let len : length (slice_range frames start end) ≡ end - start = range_length frames start end (omega (arith, size, within)) in
+    same_number_lists (slice_range frames start end) (slice_range words start end)
+    (len ∙ sym (range_length words start end (omega (arith, long, within))))
+    (λ k low.
+    let inside : k < end - start = omega (arith, len, low) in
+    range_at frames start end k inside
+    ∙ sym (at_frame (start + k) (framed (start + k) (omega arith) (omega (arith, inside))))
+    ∙ sym (shown_at table frames text initial (start + k) (omega (arith, inside, within)))
+    ∙ sym (range_at words start end k inside))
+  where
+    at_frame : (k : ℕ) → slice_index_or table (k / 64) false ≡ true → word_at table frames text initial k ≡ get_or frames k 0
+    at_frame k owned = rw owned refl

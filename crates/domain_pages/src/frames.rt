@@ -4,8 +4,8 @@ ghost use Rattle.std.specs.Prelude.{◌≡◌, ◌+◌, ◌*◌, ◌/◌, ◌<�
 ghost use Rattle.machine_defs.specs.Pages.{opening_memory, padded_words, with_words};
 ghost use Rattle.domain_pages.specs.Frames.{has_some, image_word, word_at, shown, opening_table, IsFramed, IsText, with_own};
 
-use nook_data::lists::Word;
-use nook_data::memory::NoMemory;
+use nook_data::lists::{Items, Word, Words};
+use nook_data::memory::{NoMemory, Room};
 use nook_data::memory_map::{
     BUFFERS_END, MEMORY_WORDS, OBJECT_WORDS, OBJECTS, OWN_PAGES, PAGE_WORDS, PAGES, TEXT_WORDS,
 };
@@ -175,6 +175,35 @@ fn page_end(start: usize, count: usize) -> usize
     }
 }
 
+/// Whether each page that contains one of `count` words from an address on has its own frame.
+#[tactic(auto, using(crate::proofs::Own::has_here))]
+pub fn are_framed(table: &[bool; PAGES], start: usize, count: usize) -> bool
+    requires { start + count ≤ MEMORY_WORDS }
+    ensures { result ≡ true → (k : ℕ) → start ≤ k → k < start + count
+        → slice_index_or table.now (k / PAGE_WORDS) false ≡ true }
+{
+    for page in start / PAGE_LEN..page_end(start, count) {
+        if !table[page] {
+            return false;
+        }
+    }
+    true
+}
+
+/// `count` words of the frames from an address on, in the memory of `room`, which has room for them.
+pub fn words_of_frames(frames: &[Word], start: usize, count: usize, room: Room<Word>) -> Words
+    requires within { start + count ≤ length frames.now }
+    requires room { count ≤ room }
+    ensures words { result ≡ slice_range frames.now start (start + count) }
+    ensures len { length result ≡ count }
+{
+    let mut words = room.into_vec();
+    words
+        .extend_from_slice(&frames[start..start + count])
+        .unwrap();
+    Items::from_vec(words)
+}
+
 /// Gives each page that contains one of `count` words from an address on its own frame; it shows what the page showed.
 fn own_all(
     table: &mut [bool; PAGES],
@@ -301,6 +330,24 @@ pub fn opening_frames(alloc: Global) -> Result<Vec<Word>, NoMemory>
         frames.extend_from_slice(&page)?;
     }
     Ok(frames)
+}
+
+/// Brings the frames of the kernel objects into their initial state: each is zeros after the object's number.
+pub fn renew_objects(frames: &mut [Word])
+    requires { length frames.old ≡ MEMORY_WORDS }
+    ensures size { length frames.new ≡ MEMORY_WORDS }
+    ensures objects { (k : ℕ) → BUFFERS_END ≤ k → k < MEMORY_WORDS
+        → slice_index frames.new k ≡ slice_index (opening_memory []) k }
+{
+    write_all(
+        frames,
+        BUFFERS_END as usize,
+        &[],
+        (OBJECT_WORDS * OBJECTS) as usize,
+    );
+    for object in 1..OBJECTS {
+        frames[(BUFFERS_END + OBJECT_WORDS * object) as usize] = object;
+    }
 }
 
 /// The 64 words of a page's frame.

@@ -8,7 +8,10 @@ ghost use Rattle.machine_defs.specs.Views.PageMap.{pages_loaded};
 ghost use Rattle.domain_pages.specs.Frames.{with_own};
 
 use crate::decoding::{decode_range, put_decoded, put_text};
-use crate::frames::{Span, end_after, opening_frames, opening_table, put, put_all, word_at};
+use crate::frames::{
+    Span, are_framed, end_after, opening_frames, opening_table, put, put_all, renew_objects,
+    word_at, words_of_frames,
+};
 use crate::packed::{PackedPages, packed_frames, unpack_frames};
 use driver_isa::{Decoded, decoded_of, instr_of};
 use nook_data::limits::CONTEXTS;
@@ -79,6 +82,33 @@ impl PageMap {
             frames,
             lent: [false; CONTEXTS],
         })
+    }
+
+    /// The map of a new domain, as `new` makes it, in the memory of one that is no longer needed.
+    pub fn renewed(self) -> PageMap
+        ensures { result ≡ opening_pages }
+    {
+        let PageMap {
+            alloc,
+            mut text,
+            mut decoded,
+            text_end,
+            mut frames,
+            ..
+        } = self;
+        // Without frames the pages of the driver show the text, which is made zeros, and no initial words.
+        put_text(&mut text, &mut decoded, &[], text_end);
+        renew_objects(&mut frames);
+        PageMap {
+            alloc,
+            text,
+            decoded,
+            text_end: 0,
+            initial: Words::new(alloc),
+            table: opening_table(),
+            frames,
+            lent: [false; CONTEXTS],
+        }
     }
 
     /// The word at an address; `None` exactly if the address exceeds 8,191.
@@ -198,6 +228,22 @@ impl PageMap {
 
     /// Reads `count` words from an address on, into the memory of `room`, which has room for them.
     pub fn words(&self, start: u32, count: u32, room: Room<Word>) -> Words
+        requires within { start + count ≤ MEMORY_WORDS }
+        requires room { count ≤ room }
+        ensures words { result ≡ slice_range self.now.words start (start + count) }
+        ensures len { length result ≡ count }
+    {
+        let (first, len) = (start as usize, count as usize);
+        // Kernel objects, and buffers that a driver filled, have frames.
+        if are_framed(&self.table, first, len) {
+            words_of_frames(&self.frames, first, len, room)
+        } else {
+            self.shown_words(start, count, room)
+        }
+    }
+
+    /// Reads `count` words from an address on, each from its frame or from the image.
+    fn shown_words(&self, start: u32, count: u32, room: Room<Word>) -> Words
         requires within { start + count ≤ MEMORY_WORDS }
         requires room { count ≤ room }
         ensures words { result ≡ slice_range self.now.words start (start + count) }

@@ -1,5 +1,5 @@
 use Rattle.std.proofs.Common.{◌≡◌, ◌+◌, ◌≤◌, length, slice_range, vec_capacity}
-use Rattle.domain_pages.proofs.map.PageMap.words.Given as goal
+use Rattle.domain_pages.proofs.map.PageMap.shown_words.Given as goal
 
 abbrev pub invariant-loop-i : goal.invariant-loop-i
 invariant-loop-i l =

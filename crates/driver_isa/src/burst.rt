@@ -4,17 +4,16 @@ ghost use Rattle.std.specs.Prelude.{◌≡◌, ◌<◌, ◌≤◌, ◌-◌, ℕ,
 ghost use Rattle.driver_isa.specs.Runs.{is_due, past_run};
 ghost use Rattle.driver_isa.specs.Steps.{cpu_of};
 ghost use Rattle.driver_isa.specs.Turns.{machine_of};
-ghost use Rattle.machine_defs.specs.Burst.{burst as burst_of, burst_from, strikes_at, count_at, struck_machine};
-ghost use Rattle.machine_defs.specs.Burst.{trap_of};
+ghost use Rattle.machine_defs.specs.Burst.{burst as burst_of, burst_from, count_at};
 
 use crate::bus::Bus;
+use crate::faults::strike_due;
 use crate::turn::{InstructionResult, take_turn};
 use nook_data::journal::ActLog;
 use nook_data::limits::{MOST_ACTS, MOST_INSTRUCTIONS};
 use nook_data::lists::Word;
 use nook_data::machine::{BurstEnd, Cpu, TrapCause};
-use nook_data::memory_map::TEXT_WORDS;
-use nook_data::scenario::{Fault, FaultKind};
+use nook_data::scenario::Fault;
 
 /// How a burst went: the number of its instructions, including a last one that trapped, and its end.
 #[derive(Clone, Copy)]
@@ -37,13 +36,6 @@ struct Whole {
     count: u32,
     counter: Word,
     end: BurstEnd,
-}
-
-/// The result of striking the faults that were due: the faults after them, and the trap if one of them was one.
-#[derive(Drop)]
-pub struct Struck<'a> {
-    pub rest: &'a [Fault],
-    pub stopped: Option<TrapCause>,
 }
 
 /// Runs one burst to its crossing. `faults` are those of this burst in rising order of `after`: one with
@@ -246,111 +238,5 @@ fn stopped(count: u32, counter: Word, cause: TrapCause) -> Whole
         count,
         counter,
         end: BurstEnd::Trap(cause),
-    }
-}
-
-/// Strikes the first faults that are due after this many instructions, in order, up to one that is a trap. `counter`
-/// is the processor's, which no fault changes.
-// Most bursts have no faults left, and a walk asks before each instruction.
-#[inline(always)]
-pub fn strike_due<'a, B: Bus>(
-    faults: &'a [Fault],
-    point: u32,
-    counter: Word,
-    registers: &mut [Word; 16],
-    bus: &mut B,
-) -> Struck<'a>
-    ensures struck { strikes_at point (B.entries bus.old) faults.now
-        (machine_of (cpu_of counter registers.old) (B.words bus.old) (B.device bus.old))
-        ≡ record {
-          machine = machine_of (cpu_of counter registers.new) (B.words bus.new) (B.device bus.new);
-          rest = result.rest.now;
-          stopped = result.stopped;
-        } }
-    ensures clear { result.stopped ≡ None → is_due point result.rest.now ≡ false }
-    ensures entries { B.entries bus.new ≡ B.entries bus.old }
-    ensures held { B.held bus.new ≡ B.held bus.old }
-{
-    if faults.is_empty() {
-        return Struck {
-            rest: faults,
-            stopped: None,
-        };
-    }
-    strike_front(faults, point, counter, registers, bus)
-}
-
-/// Does the same for any faults, one after the other.
-#[inline(never)]
-fn strike_front<'a, B: Bus>(
-    faults: &'a [Fault],
-    point: u32,
-    counter: Word,
-    registers: &mut [Word; 16],
-    bus: &mut B,
-) -> Struck<'a>
-    ensures struck { strikes_at point (B.entries bus.old) faults.now
-        (machine_of (cpu_of counter registers.old) (B.words bus.old) (B.device bus.old))
-        ≡ record {
-          machine = machine_of (cpu_of counter registers.new) (B.words bus.new) (B.device bus.new);
-          rest = result.rest.now;
-          stopped = result.stopped;
-        } }
-    ensures clear { result.stopped ≡ None → is_due point result.rest.now ≡ false }
-    ensures entries { B.entries bus.new ≡ B.entries bus.old }
-    ensures held { B.held bus.new ≡ B.held bus.old }
-{
-    let mut rest = faults;
-    while let [fault, more @ ..] = rest {
-        if fault.after != point {
-            break;
-        }
-        rest = more;
-        if let Some(cause) = strike(fault.kind, counter, registers, bus) {
-            return Struck {
-                rest,
-                stopped: Some(cause),
-            };
-        }
-    }
-    Struck {
-        rest,
-        stopped: None,
-    }
-}
-
-/// Strikes one fault, and returns its trap if it is one. A Poke, a Code or a Reg without a valid target does nothing.
-fn strike<B: Bus>(
-    kind: FaultKind,
-    counter: Word,
-    registers: &mut [Word; 16],
-    bus: &mut B,
-) -> Option<TrapCause>
-    ensures struck { struck_machine (B.entries bus.old) kind
-        (machine_of (cpu_of counter registers.old) (B.words bus.old) (B.device bus.old))
-        ≡ machine_of (cpu_of counter registers.new) (B.words bus.new) (B.device bus.new) }
-    ensures trap { result ≡ trap_of kind }
-    ensures entries { B.entries bus.new ≡ B.entries bus.old }
-    ensures held { B.held bus.new ≡ B.held bus.old }
-{
-    match kind {
-        FaultKind::Trap => Some(TrapCause::Injected),
-        FaultKind::Hang => Some(TrapCause::Hang),
-        FaultKind::Poke { address, value } => {
-            let _written = bus.write(address, value);
-            None
-        }
-        FaultKind::Code { address, value } => {
-            if address < TEXT_WORDS {
-                bus.poke_text(address, value);
-            }
-            None
-        }
-        FaultKind::Reg { register, value } => {
-            if register < 16 {
-                registers[register as usize] = value;
-            }
-            None
-        }
     }
 }

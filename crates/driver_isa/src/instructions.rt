@@ -109,37 +109,14 @@ fn row(name: &'static str, number: u8, form: Form) -> InstructionRow
     }
 }
 
-/// The mnemonic with this number.
+/// The mnemonic with this number: numbers are those of the table, from 1.
 pub fn mnemonic_numbered(number: u8) -> Option<Mnemonic>
     ensures { result ≡ mnemonic_numbered number }
 {
-    match number {
-        0x01 => Some(Mnemonic::Li),
-        0x02 => Some(Mnemonic::Lui),
-        0x03 => Some(Mnemonic::Mov),
-        0x04 => Some(Mnemonic::Add),
-        0x05 => Some(Mnemonic::Sub),
-        0x06 => Some(Mnemonic::And),
-        0x07 => Some(Mnemonic::Or),
-        0x08 => Some(Mnemonic::Xor),
-        0x09 => Some(Mnemonic::Shl),
-        0x0a => Some(Mnemonic::Shr),
-        0x0b => Some(Mnemonic::Addi),
-        0x0c => Some(Mnemonic::Ld),
-        0x0d => Some(Mnemonic::St),
-        0x0e => Some(Mnemonic::Jmp),
-        0x0f => Some(Mnemonic::Beq),
-        0x10 => Some(Mnemonic::Bne),
-        0x11 => Some(Mnemonic::Blt),
-        0x12 => Some(Mnemonic::Jal),
-        0x13 => Some(Mnemonic::Jr),
-        0x14 => Some(Mnemonic::In),
-        0x15 => Some(Mnemonic::Out),
-        0x16 => Some(Mnemonic::Kcall),
-        0x17 => Some(Mnemonic::Ret),
-        0x18 => Some(Mnemonic::Fault),
-        _ => None,
+    if number == 0 || number as usize > MNEMONICS.len() {
+        return None;
     }
+    Some(MNEMONICS[number as usize - 1])
 }
 
 /// The instruction of a mnemonic and its operands; operands that its form lacks are ignored.

@@ -2,9 +2,11 @@
 
 ghost use Rattle.std.specs.Prelude.{◌≡◌, ℕ, Some, false, true};
 ghost use Rattle.driver_isa.specs.Decoding.{instr_of, op_instr};
+ghost use Rattle.driver_isa.specs.Entries.{in_text};
 ghost use Rattle.machine_defs.specs.Mnemonics.{fields, fields_of, instr_with, instruction_row, mnemonic_numbered};
 
 use nook_data::machine::{Form, Instr, Mnemonic};
+use nook_data::memory_map::TEXT_WORDS;
 use std::marker::Model;
 
 /// A row of the table: an instruction's name, number and form, and whether it sets register a.
@@ -279,10 +281,10 @@ pub fn op_of(mnemonic: Mnemonic) -> Op
 // instruction. Here each is read where it is used. It has eight bytes, so that its address in a list is one step.
 #[derive(Clone, Copy)]
 pub struct Decoded {
-    op: Op,
-    a: u8,
-    b: u8,
-    imm: u16,
+    pub(crate) op: Op,
+    pub(crate) a: u8,
+    pub(crate) b: u8,
+    pub(crate) imm: u16,
     unused: u16,
 }
 
@@ -300,8 +302,6 @@ pub fn decoded_with(op: Op, a: u8, b: u8, imm: u16) -> Decoded
 }
 
 /// The instruction, if it is one.
-// When this is inlined, the matches on the op and on the instruction become one.
-#[inline(always)]
 pub fn instr_of(decoded: &Decoded) -> Option<Instr>
     ensures { result ≡ instr_of decoded.now }
 {
@@ -395,4 +395,16 @@ pub fn instr_of(decoded: &Decoded) -> Option<Instr>
         Op::Ret => Some(Instr::Ret { a: decoded.a }),
         Op::Fault => Some(Instr::Fault),
     }
+}
+
+/// A decoded word as an entry of the text: a jump to an address outside it is no instruction here.
+// So a burst follows a jump without a test of its target.
+pub fn entry_from(decoded: Decoded) -> Decoded
+    ensures { instr_of result ≡ in_text (instr_of decoded) }
+{
+    let jumps = matches!(decoded.op, Op::Jmp | Op::Beq | Op::Bne | Op::Blt | Op::Jal);
+    if jumps && u32::from(decoded.imm) >= TEXT_WORDS {
+        return decoded_with(Op::None, 0, 0, 0);
+    }
+    decoded
 }

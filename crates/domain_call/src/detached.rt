@@ -5,10 +5,9 @@ ghost use Rattle.machine_defs.specs.Views.PageMap.{lent_contexts};
 
 use device_models::Device;
 use domain_pages::PageMap;
-use driver_isa::Bus;
+use driver_isa::{Bus, Decoded};
 use nook_data::journal::ActLog;
 use nook_data::lists::Word;
-use nook_data::machine::Instr;
 use object_tracker::Tracker;
 
 /// Detached pages and a device; what the tracker records says where a machine may write.
@@ -29,8 +28,8 @@ impl Bus for Detached {
 
     ghost held = { λ s. [] };
 
-    fn fetch(&self, address: u32) -> Option<Option<Instr>> {
-        self.pages.fetch(address)
+    fn text(&self) -> &[Decoded] {
+        self.pages.decoded()
     }
 
     fn read(&self, address: u32) -> Option<Word> {

@@ -6,10 +6,8 @@ use Rattle.std.proofs.lemmas.List.{get_or_past, get_or-set_same, get_or-set_othe
 use Rattle.std.specs.Global.{Vec}
 use Rattle.std.specs.Vec.{with_items}
 use Rattle.driver_isa.specs.Decoding.{instr_of}
-use Rattle.driver_isa.specs.Steps.{fetched}
+use Rattle.driver_isa.specs.Entries.{IsDecodedText, entry_of}
 use Rattle.driver_isa.specs.declared.instructions.Decoded.{Decoded}
-use Rattle.machine_defs.specs.Machine.{decode_of}
-use Rattle.machine_defs.specs.Pages.{fetch_word}
 use Rattle.domain_pages.specs.Decoding.{IsDecoded, IsDecodedAt}
 
 instrs_set : (ds : List Decoded) (a : ℕ) (d : Decoded) → map instr_of (set ds a d) ≡ set (map instr_of ds) a (instr_of d)
@@ -21,13 +19,8 @@ length-instrs : (ds : List Decoded) → length (map instr_of ds) ≡ length ds
 length-instrs [] = refl
 length-instrs (x ∷ ds) = ap suc (length-instrs ds)
 
-instr_at : (ds : List Decoded) (k : ℕ) (d : Decoded) → k < length ds → get_or (map instr_of ds) k None ≡ instr_of (get_or ds k d)
-instr_at [] k d low = absurd (omega (arith, low))
-instr_at (x ∷ ds) zero d low = refl
-instr_at (x ∷ ds) (suc k) d low = instr_at ds k d (omega (arith, low))
-
 -- one more entry
-pub entry_here : (ds : List Decoded) (text : List ℕ) (a : ℕ) (d : Decoded) → a < length ds → instr_of d ≡ decode_of (get_or text a 0) → IsDecodedAt (set ds a d) text a
+pub entry_here : (ds : List Decoded) (text : List ℕ) (a : ℕ) (d : Decoded) → a < length ds → instr_of d ≡ entry_of (get_or text a 0) → IsDecodedAt (set ds a d) text a
 entry_here ds text a d low is =
     ap (λ is. get_or is a None) (instrs_set ds a d)
     ∙ get_or-set_same (map instr_of ds) a (instr_of d) None (omega (arith, low, length-instrs ds))
@@ -40,12 +33,12 @@ entry_there ds text a k d differs same =
     ∙ same
 
 -- a word of text is written, and its entry too
-pub put_both : (ds : List Decoded) (text : List ℕ) (a w : ℕ) (d : Decoded) → a < 2048 → length text ≡ 2048 → instr_of d ≡ decode_of w → IsDecoded ds text → IsDecoded (set ds a d) (set text a w)
+pub put_both : (ds : List Decoded) (text : List ℕ) (a w : ℕ) (d : Decoded) → a < 2048 → length text ≡ 2048 → instr_of d ≡ entry_of w → IsDecoded ds text → IsDecoded (set ds a d) (set text a w)
 put_both ds text a w d low size is e = record {
   size = length-set ds a d ∙ e.size;
   same = λ k. elim (cases_eq k a) [
-    | inl here ↦ rw here (entry_here ds (set text a w) a d (omega (arith, e.size, low)) (is ∙ ap decode_of (sym (get_or-set_same text a w 0 (omega (arith, size, low))))))
-    | inr there ↦ entry_there ds (set text a w) a k d there (e.same k ∙ ap decode_of (sym (get_or-set_other text a k w 0 there)))
+    | inl here ↦ rw here (entry_here ds (set text a w) a d (omega (arith, e.size, low)) (is ∙ ap entry_of (sym (get_or-set_same text a w 0 (omega (arith, size, low))))))
+    | inr there ↦ entry_there ds (set text a w) a k d there (e.same k ∙ ap entry_of (sym (get_or-set_other text a k w 0 there)))
   ];
 }
 
@@ -54,7 +47,7 @@ pub put_past : (ds : List Decoded) (text : List ℕ) (a w : ℕ) → 2048 ≤ a 
 put_past ds text a w high size e = rw (set_past text a w (omega (arith, size, high))) e
 
 -- the next word is decoded
-pub one_more : (ds : List Decoded) (text : List ℕ) (i end : ℕ) (d : Decoded) → i < length ds → instr_of d ≡ decode_of (get_or text i 0)
+pub one_more : (ds : List Decoded) (text : List ℕ) (i end : ℕ) (d : Decoded) → i < length ds → instr_of d ≡ entry_of (get_or text i 0)
     → ((k : ℕ) → (k < i) ⊎ (end ≤ k) → IsDecodedAt ds text k)
     → (k : ℕ) → (k < i + 1) ⊎ (end ≤ k) → IsDecodedAt (set ds i d) text k
 one_more ds text i end d low is before k in_it = elim (cases_eq k i) [
@@ -66,7 +59,7 @@ one_more ds text i end d low is before k in_it = elim (cases_eq k i) [
 ]
 
 -- all words are decoded
-pub all_decoded : (ds : List Decoded) (text : List ℕ) (i end : ℕ) → length ds ≡ 2048 → end ≤ i
+pub all_decoded : (ds : List Decoded) (text : List ℕ) (i end : ℕ) → length ds ≡ 2049 → end ≤ i
     → ((k : ℕ) → (k < i) ⊎ (end ≤ k) → IsDecodedAt ds text k)
     → IsDecoded ds text
 all_decoded ds text i end size done at = record {
@@ -79,10 +72,10 @@ all_decoded ds text i end size done at = record {
 
 -- at an address where the words are the same
 pub same_word_at : (ds : List Decoded) (text other : List ℕ) (k : ℕ) → IsDecoded ds text → get_or other k 0 ≡ get_or text k 0 → IsDecodedAt ds other k
-same_word_at ds text other k e is = e.same k ∙ ap decode_of (sym is)
+same_word_at ds text other k e is = e.same k ∙ ap entry_of (sym is)
 
 -- a vector's entries after a slice of them was written
-pub entries_back : (v : Vec Decoded) (ws : List Decoded) → length v.items ≡ 2048 → length ws ≡ 2048 → (with_items v ws).items ≡ ws
+pub entries_back : (v : Vec Decoded) (ws : List Decoded) → length v.items ≡ 2049 → length ws ≡ 2049 → (with_items v ws).items ≡ ws
 entries_back v ws size same = with_items_is v ws (omega (arith, v.ok.0))
 
 -- the entries of addresses where nothing was written
@@ -98,16 +91,18 @@ kept_outside ds text other start count end e size long same past k out = same_wo
   ]
 ])
 
--- what is fetched
-pub entry_fetched : (ds : List Decoded) (text words : List ℕ) (k : ℕ) (d : Decoded) → IsDecoded ds text → k < 2048 → d ≡ get_or ds k d → Some (get_or text k 0) ≡ fetch_word words k → Some (instr_of d) ≡ fetched words k
-entry_fetched ds text words k d e low at is =
-    ap (λ x. Some (instr_of x)) at
-    ∙ ap Some (sym (instr_at ds k d (omega (arith, e.size, low))) ∙ e.same k)
-    ∙ ap (option_map decode_of) is
+-- the decoded text of the words that are shown
+pub text_decoded : (ds : List Decoded) (text words : List ℕ) → length text ≡ 2048 → IsDecoded ds text
+    → ((k : ℕ) → k < 2048 → get_or text k 0 ≡ get_or words k 0) → IsDecodedText ds words
+text_decoded ds text words size e same = record {
+  size = e.size;
+  same = λ k low. e.same k ∙ ap entry_of (same k low);
+  last = e.same 2048 ∙ ap entry_of (get_or_past text 2048 0 (omega (arith, size)));
+}
 
 -- a text of zeros
-pub zeros_decoded : (d : Decoded) → instr_of d ≡ decode_of 0 → IsDecoded (replicate 2048 d) (replicate 2048 0)
-zeros_decoded d is = record { size = length-replicate 2048 d; same = λ k. entry_at 2048 k ∙ ap decode_of (sym (zero_at 2048 k)) }
+pub zeros_decoded : (d : Decoded) → instr_of d ≡ entry_of 0 → IsDecoded (replicate 2049 d) (replicate 2048 0)
+zeros_decoded d is = record { size = length-replicate 2049 d; same = λ k. entry_at 2049 k ∙ ap entry_of (sym (zero_at 2048 k)) }
   where
     zero_at : (n k : ℕ) → get_or {A = ℕ} (replicate n 0) k 0 ≡ 0
     zero_at zero k = refl

@@ -17,13 +17,8 @@ text_opening frames text initial size = record {
 }
 
 -- the word that is fetched
-pub text_fetched : (table : List Bool) (frames text initial : List ℕ) (k : ℕ) → IsText table frames text initial → k < 2048 → Some (slice_index text k) ≡ fetch_word (shown table frames text initial) k
-text_fetched table frames text initial k t low =
-    ap Some (sym (shown_at table frames text initial k (omega arith) ∙ t.same k low))
-    ∙ sym (fetch_low (shown table frames text initial) k low)
-  where
-    fetch_low : (memory : List ℕ) (k : ℕ) → k < 2048 → fetch_word memory k ≡ Some (slice_index memory k)
-    fetch_low memory k low = grind arith
+pub text_shown : (table : List Bool) (frames text initial : List ℕ) (k : ℕ) → IsText table frames text initial → k < 2048 → slice_index text k ≡ slice_index (shown table frames text initial) k
+text_shown table frames text initial k t low = sym (shown_at table frames text initial k (omega arith) ∙ t.same k low)
 
 -- a text that differs only on pages with frames shows the same words
 same_word : (table : List Bool) (frames text other initial : List ℕ) (k : ℕ) → (k < 2048 → (slice_index other k ≡ slice_index text k) ⊎ (slice_index_or table (k / 64) false ≡ true)) → word_at table frames other initial k ≡ word_at table frames text initial k

@@ -1,10 +1,10 @@
 //! The decoded words of the text.
 
-ghost use Rattle.std.specs.Prelude.{◌≡◌, ◌<◌, ◌≤◌, ◌⊎◌, ℕ, List, length, slice_index, slice_set};
+ghost use Rattle.std.specs.Prelude.{◌≡◌, ◌+◌, ◌<◌, ◌≤◌, ◌⊎◌, ℕ, List, length, slice_index, slice_set};
 ghost use Rattle.domain_pages.specs.Decoding.{IsDecoded, IsDecodedAt};
 
 use crate::frames::word_or_zero;
-use driver_isa::{Decoded, decoded_of};
+use driver_isa::{Decoded, entry_of};
 use nook_data::lists::Word;
 use nook_data::memory_map::TEXT_WORDS;
 
@@ -13,25 +13,25 @@ const TEXT_LEN: usize = TEXT_WORDS as usize;
 
 /// Decodes a word that was written; does nothing at an address past the text.
 pub fn put_decoded(decoded: &mut [Decoded], address: usize, word: Word)
-    requires { length decoded.old ≡ TEXT_WORDS }
+    requires { length decoded.old ≡ TEXT_WORDS + 1 }
     ensures { (text : List ℕ) → length text ≡ TEXT_WORDS → IsDecoded decoded.old text
         → IsDecoded decoded.new (slice_set text address word) }
 {
     if address < TEXT_LEN {
-        decoded[address] = decoded_of(word);
+        decoded[address] = entry_of(word);
     }
 }
 
 /// Decodes the words of text from one address up to another; the entries of the others are right already.
 pub fn decode_range(decoded: &mut [Decoded], text: &[Word], start: usize, end: usize)
-    requires size { length decoded.old ≡ TEXT_WORDS }
+    requires size { length decoded.old ≡ TEXT_WORDS + 1 }
     requires text { length text.now ≡ TEXT_WORDS }
     requires within { end ≤ TEXT_WORDS }
     requires outside { (k : ℕ) → (k < start) ⊎ (end ≤ k) → IsDecodedAt decoded.old text.now k }
     ensures { IsDecoded decoded.new text.now }
 {
     for address in start..end {
-        decoded[address] = decoded_of(text[address]);
+        decoded[address] = entry_of(text[address]);
     }
 }
 

@@ -1,7 +1,7 @@
 //! The page map.
 
 ghost use Rattle.std.specs.Prelude.{◌≡◌, ◌+◌, ◌/◌, ◌<◌, ◌≤◌, true, false, length, slice_get, slice_set, slice_range, slice_index, slice_index_or, IfOk, OnOk, OnErr};
-ghost use Rattle.driver_isa.specs.Steps.{fetched};
+ghost use Rattle.driver_isa.specs.Entries.{IsDecodedText};
 ghost use Rattle.machine_defs.specs.Pages.{read_word, padded_words, with_words};
 ghost use Rattle.machine_defs.specs.Views.PageMap.{opening_pages, may_change, page_written, driver_written};
 ghost use Rattle.machine_defs.specs.Views.PageMap.{pages_loaded};
@@ -13,10 +13,9 @@ use crate::frames::{
     word_at, words_of_frames,
 };
 use crate::packed::{PackedPages, packed_frames, unpack_frames};
-use driver_isa::{Decoded, decoded_of, instr_of};
+use driver_isa::{Decoded, entry_of};
 use nook_data::limits::CONTEXTS;
 use nook_data::lists::{Items, TryCopy, Word, Words};
-use nook_data::machine::Instr;
 use nook_data::memory::{NoMemory, Room};
 use nook_data::memory_map::{
     BUFFER_WORDS, BUFFERS_END, DATA_START, DATA_WORDS, MEMORY_WORDS, OWN_PAGES, PAGES, STACKS_END,
@@ -33,7 +32,7 @@ pub struct PageMap {
     alloc: Global,
     /// The words of text as they are shown.
     text: Vec<Word>,
-    /// The instruction of each of them, so that a fetch looks at neither the table nor the word.
+    /// The entry of each of them, and one that is no instruction: a burst looks at neither the table nor the words.
     decoded: Vec<Decoded>,
     /// From this address on the text is zeros.
     text_end: usize,
@@ -70,7 +69,7 @@ impl PageMap {
         ensures { IfOk result (λ made. made ≡ opening_pages) }
     {
         let text = vec![in alloc; 0; TEXT_WORDS as usize]?;
-        let decoded = vec![in alloc; decoded_of(0); TEXT_WORDS as usize]?;
+        let decoded = vec![in alloc; entry_of(0); TEXT_WORDS as usize + 1]?;
         let frames = opening_frames(alloc)?;
         Ok(PageMap {
             alloc,
@@ -122,15 +121,11 @@ impl PageMap {
         }
     }
 
-    /// The instruction of the text word at an address, if that is one; `None` exactly if the address exceeds 2,047.
-    pub fn fetch(&self, address: u32) -> Option<Option<Instr>>
-        ensures { result ≡ fetched self.now.words address }
+    /// The decoded words of the text, and after them an entry that is no instruction.
+    pub fn decoded(&self) -> &[Decoded]
+        ensures { IsDecodedText result.now self.now.words }
     {
-        if address < TEXT_WORDS {
-            Some(instr_of(&self.decoded[address as usize]))
-        } else {
-            None
-        }
+        self.decoded.as_slice()
     }
 
     /// The word at an address up to 8,191.

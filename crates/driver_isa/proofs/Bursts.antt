@@ -1,11 +1,14 @@
 use Rattle.std.proofs.Common.{◌≡◌, ◌+◌, ◌-◌, ◌<◌, ◌≤◌, ◌==◌, ℕ, suc, true, false, nat_le, List, [], ◌∷◌, Option, Some, None, length, refl, sym, ◌∙◌, arith}
 use Rattle.driver_isa.specs.Runs.{is_due, past_run}
 use Rattle.driver_isa.specs.Turns.{IsExecuted}
+use Rattle.driver_isa.specs.Entries.{IsEntryAt, executed_entry}
+use Rattle.driver_isa.proofs.Entries.{entry_turn}
 use Rattle.machine_defs.specs.Burst.{Burst, Struck, burst, burst_from, count_at, ended, strikes_at}
 use Rattle.machine_defs.specs.Execution.{Machine, turn}
 use Rattle.machine_defs.proofs.BurstTurns.{crossing_ends, goes_on, last_act_ends, trap_ends, turn_cases}
 use Rattle.nook_data.specs.declared.machine.Act.{Act}
 use Rattle.nook_data.specs.declared.entries.Entry.{Entry}
+use Rattle.nook_data.specs.declared.machine.Instr.{Instr}
 use Rattle.nook_data.specs.declared.scenario.Fault.{Fault}
 use Rattle.nook_data.specs.declared.machine.TrapCause.{TrapCause}
 use Rattle.nook_data.specs.declared.machine.TrapCause.TheVariants as trap
@@ -159,6 +162,18 @@ run_goes_on count entries entries' faults m left acts after whole reported h cle
 -- if no act was added, there is still room for one
 pub few_left : (acts after : List Act) → after ≡ acts → length acts < 64 → nat_le 64 (length after) ≡ false
 few_left acts after e h = rw e (grind arith)
+
+-- the instruction of an entry, with this many left up to `stop`
+pub entry_goes_on : (stop left : ℕ) (entries entries' : List Entry) (faults : List Fault) (m m' : Machine) (o : Option Instr) (acts after : List Act) (whole : Burst)
+    → 0 < left → left ≤ stop → stop ≤ 4096 → is_due (stop - left) faults ≡ false
+    → IsEntryAt o m.memory m.cpu.counter → IsExecuted (executed_entry entries m o) m' acts after None → length after < 64 → entries' ≡ entries
+    → burst_from (4096 - (stop - left)) entries faults m acts ≡ whole
+    → burst_from (4096 - (stop - (left - 1))) entries' faults m' after ≡ whole
+entry_goes_on stop left entries entries' faults m m' o acts after whole some within most clear is done few same e =
+    let next : stop - (left - 1) ≡ (stop - left) + 1 = omega arith in
+    rw next
+    (run_goes_on (stop - left) entries entries' faults m m' acts after whole None (omega arith) clear e
+    (entry_turn entries m m' o acts after is done).turned refl (few_left after after refl few) same)
 
 -- consecutive instructions that ended the burst
 pub run_ended : (count : ℕ) (entries : List Entry) (faults : List Fault) (m : Machine) (acts : List Act) (whole : Burst)

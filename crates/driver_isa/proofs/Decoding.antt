@@ -4,12 +4,10 @@ use Rattle.std.specs.Option.{option_map}
 use Rattle.std.proofs.lemmas.Bool.{and_parts, leb-true}
 use Rattle.std.specs.List.{find}
 use Rattle.driver_isa.specs.Fields.{has_registers}
-use Rattle.driver_isa.specs.Steps.{fetched}
 use Rattle.machine_defs.specs.Machine.{a_field, b_field, imm_field, is_of_row, decode_of, word_of}
 use Rattle.machine_defs.specs.Mnemonics.{Fields, fields_of, form_of, instr_with, instruction_row, mnemonics}
 use Rattle.machine_defs.proofs.Instructions.{fields_back, fields_in}
 use Rattle.machine_defs.proofs.Words.{InRange, decodes_back}
-use Rattle.machine_defs.specs.Pages.{fetch_word}
 use Rattle.nook_data.specs.declared.machine.Form.{Form}
 use Rattle.nook_data.specs.declared.machine.Form.TheVariants as form
 use Rattle.nook_data.specs.declared.machine.Instr.{Instr}
@@ -37,14 +35,6 @@ found_registers w (Some m) = row_registers w m
 -- the register numbers of a decoded word's instruction are at most 15
 pub decoded_registers : (w : ℕ) → IfSome (decode_of w) (λ i. has_registers i ≡ true)
 decoded_registers w = found_registers w (find (is_of_row w) mnemonics)
-
-past_registers : (word : Option ℕ) (i : Instr) → option_map decode_of word ≡ Some (Some i) → has_registers i ≡ true
-past_registers None i e = subst (λ (o : Option (Option Instr)). IfSome o (λ x. IfSome x (λ i. has_registers i ≡ true))) e tt
-past_registers (Some w) i e = subst (λ (o : Option (Option Instr)). IfSome o (λ x. IfSome x (λ i. has_registers i ≡ true))) e (decoded_registers w)
-
--- the same of an instruction that was fetched
-pub fetched_registers : (words : List ℕ) (counter : ℕ) (o : Option (Option Instr)) (i : Instr) → o ≡ fetched words counter → o ≡ Some (Some i) → has_registers i ≡ true
-fetched_registers words counter o i is e = past_registers (fetch_word words counter) i (sym is ∙ e)
 
 -- the word of an instruction's fields decodes to it, if they are in range
 pub encoded : (i : Instr) (f : Fields) (number w : ℕ) → has_registers i ≡ true → f ≡ fields_of i

@@ -1,4 +1,6 @@
 pub mod Decoding
+pub mod Entries
+pub mod Faults
 pub mod Fields
 pub mod OneWord
 pub mod Runs

@@ -1,21 +1,13 @@
-use Rattle.std.specs.Prelude.{ℕ, List, Bool, true, false, Option, None, Some, if◌then◌else◌}
-use Rattle.std.specs.Option.{option_map}
+use Rattle.std.specs.Prelude.{ℕ, List, Bool, true, false, Option, None, Some}
 use Rattle.driver_isa.specs.declared.turn.InstructionResult.{InstructionResult}
 use Rattle.driver_isa.specs.declared.turn.InstructionResult.TheVariants as step
 use Rattle.machine_defs.specs.Execution.{next_counter}
-use Rattle.machine_defs.specs.Machine.{decode_of}
-use Rattle.machine_defs.specs.Pages.{fetch_word}
 use Rattle.nook_data.specs.declared.machine.BurstEnd.{BurstEnd}
 use Rattle.nook_data.specs.declared.machine.Cpu.{Cpu}
-use Rattle.nook_data.specs.declared.machine.Instr.{Instr}
 
 -- a processor with this counter and these registers
 abbrev pub cpu_of : ℕ → List ℕ → Cpu
 cpu_of counter registers = record { counter = counter; registers = registers }
-
--- the instruction of the text word at an address, if that is one; nothing if the word may not be fetched
-abbrev pub fetched : List ℕ → ℕ → Option (Option Instr)
-fetched memory address = option_map decode_of (fetch_word memory address)
 
 -- the counter after an instruction at a counter
 abbrev pub next_of : ℕ → InstructionResult → ℕ
@@ -37,7 +29,3 @@ is_quiet step.Next = true
 is_quiet step.Acted = false
 is_quiet (step.To target) = true
 is_quiet (step.Ended last end) = false
-
--- to the target if the test holds, else to the next word
-abbrev pub target_where : Bool → ℕ → InstructionResult
-target_where test target = if test then step.To target else step.Next

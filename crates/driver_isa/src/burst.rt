@@ -1,20 +1,24 @@
 //! Bursts: instructions up to a crossing, with the faults that strike between them.
 
-ghost use Rattle.std.specs.Prelude.{◌≡◌, ◌<◌, ◌≤◌, ◌-◌, ℕ, List, None, false, length, []};
+ghost use Rattle.std.specs.Prelude.{◌≡◌, ◌<◌, ◌≤◌, ◌+◌, ◌-◌, ℕ, List, None, false, length, [], true};
+ghost use Rattle.driver_isa.specs.Decoding.{instr_of};
+ghost use Rattle.driver_isa.specs.Entries.{IsEntryAt, is_done, rest_instr};
 ghost use Rattle.driver_isa.specs.Runs.{is_due, past_run};
 ghost use Rattle.driver_isa.specs.Steps.{cpu_of};
 ghost use Rattle.driver_isa.specs.Turns.{machine_of};
-ghost use Rattle.machine_defs.specs.Burst.{burst as burst_of, burst_from, strikes_at, count_at, struck_machine};
-ghost use Rattle.machine_defs.specs.Burst.{trap_of};
+ghost use Rattle.machine_defs.specs.Burst.{burst as burst_of, burst_from, count_at};
+ghost use Rattle.nook_data.specs.declared.machine.Act.{Act};
 
 use crate::bus::Bus;
-use crate::turn::{InstructionResult, take_turn};
+use crate::faults::strike_due;
+use crate::instructions::Decoded;
+use crate::turn::{InstructionResult, Rest, compute, finish, is_done, take_turn};
 use nook_data::journal::ActLog;
 use nook_data::limits::{MOST_ACTS, MOST_INSTRUCTIONS};
 use nook_data::lists::Word;
 use nook_data::machine::{BurstEnd, Cpu, TrapCause};
 use nook_data::memory_map::TEXT_WORDS;
-use nook_data::scenario::{Fault, FaultKind};
+use nook_data::scenario::Fault;
 
 /// How a burst went: the number of its instructions, including a last one that trapped, and its end.
 #[derive(Clone, Copy)]
@@ -31,19 +35,28 @@ struct Run {
     end: Option<BurstEnd>,
 }
 
+/// How far a run of entries came: the burst's instructions so far and the counter.
+#[derive(Clone, Copy)]
+struct Reached {
+    count: u32,
+    counter: Word,
+}
+
+/// An entry of which something is left to do, the instructions left from it on, and its index; or that none are left.
+#[derive(Clone, Copy)]
+struct Halt {
+    at: usize,
+    left: u32,
+    rest: Rest,
+    entry: Decoded,
+}
+
 /// A whole burst: its instructions, the counter that it left, and its end.
 #[derive(Clone, Copy)]
 struct Whole {
     count: u32,
     counter: Word,
     end: BurstEnd,
-}
-
-/// The result of striking the faults that were due: the faults after them, and the trap if one of them was one.
-#[derive(Drop)]
-pub struct Struck<'a> {
-    pub rest: &'a [Fault],
-    pub stopped: Option<TrapCause>,
 }
 
 /// Runs one burst to its crossing. `faults` are those of this burst in rising order of `after`: one with
@@ -151,17 +164,16 @@ fn run_until<B: Bus>(
     ensures entries { B.entries bus.new ≡ B.entries bus.old }
     ensures held { B.held bus.new ≡ B.held bus.old }
 {
-    let mut run = run_straight(first, before, stop, registers, bus, acts);
+    let mut run = run_some(first, before, stop, registers, bus, acts);
     while run.end.is_none() && run.count < stop {
-        run = run_straight(run.counter, run.count, stop, registers, bus, acts);
+        run = run_some(run.counter, run.count, stop, registers, bus, acts);
     }
     run
 }
 
-/// Runs instructions up to a jump, a crossing, or until `stop` of the burst are done. No fault strikes here either.
-// A jump leaves the loop, so its target is a branch and not a conditional move, for which the next fetch would wait.
+/// Runs at least one instruction, up to a crossing or until `stop` of the burst are done. No fault strikes here either.
 #[inline(always)]
-fn run_straight<B: Bus>(
+fn run_some<B: Bus>(
     first: Word,
     before: u32,
     stop: u32,
@@ -185,36 +197,161 @@ fn run_straight<B: Bus>(
     ensures entries { B.entries bus.new ≡ B.entries bus.old }
     ensures held { B.held bus.new ≡ B.held bus.old }
 {
-    let mut counter = first;
-    for count in before..stop {
-        match take_turn(counter, registers, bus, acts) {
-            InstructionResult::Next => {}
-            InstructionResult::Acted => {
-                if acts.len() >= MOST_ACTS {
-                    return Run {
-                        count: count + 1,
-                        counter: counter.wrapping_add(1),
-                        end: Some(BurstEnd::Pause),
-                    };
-                }
-            }
-            InstructionResult::To(target) => return Run {
-                count: count + 1,
-                counter: target,
-                end: None,
-            },
-            InstructionResult::Ended { last, end } => return Run {
-                count: count + 1,
-                counter: last,
-                end: Some(end),
-            },
-        }
-        counter = counter.wrapping_add(1);
+    let reached = run_entries(first, before, stop, registers, bus, acts);
+    if reached.count < stop {
+        return run_one(reached.counter, reached.count, registers, bus, acts);
     }
     Run {
-        count: stop,
-        counter,
+        count: reached.count,
+        counter: reached.counter,
         end: None,
+    }
+}
+
+/// Runs instructions from the decoded text until `stop` of the burst are done, or up to one that ends the burst, leaves
+/// the text or may do the last act.
+// It has few locals, so that the processor's registers hold them.
+#[inline(always)]
+fn run_entries<B: Bus>(
+    first: Word,
+    before: u32,
+    stop: u32,
+    registers: &mut [Word; 16],
+    bus: &mut B,
+    acts: &mut ActLog,
+) -> Reached
+    requires room { length acts.old < MOST_ACTS }
+    requires some { before < stop }
+    requires within { stop ≤ MOST_INSTRUCTIONS }
+    ensures went { (pending : List Fault)
+        → ((k : ℕ) → before ≤ k → k < stop → is_due k pending ≡ false)
+        → burst_from (MOST_INSTRUCTIONS - result.count) (B.entries bus.new) pending
+        (machine_of (cpu_of result.counter registers.new) (B.words bus.new) (B.device bus.new))
+        acts.new
+        ≡ burst_from (MOST_INSTRUCTIONS - before) (B.entries bus.old) pending
+        (machine_of (cpu_of first registers.old) (B.words bus.old) (B.device bus.old)) acts.old }
+    ensures room { length acts.new < MOST_ACTS }
+    ensures further { before ≤ result.count }
+    ensures within { result.count ≤ stop }
+    ensures entries { B.entries bus.new ≡ B.entries bus.old }
+    ensures held { B.held bus.new ≡ B.held bus.old }
+{
+    if first >= TEXT_WORDS {
+        return Reached {
+            count: before,
+            counter: first,
+        };
+    }
+    let mut at = first as usize;
+    let mut left = stop - before;
+    while left > 0 {
+        let halt = run_computed(at, left, registers, bus);
+        let reached = Reached {
+            count: stop - halt.left,
+            counter: halt.at as u32,
+        };
+        if is_done(halt.rest) {
+            return reached;
+        }
+        if !finish(halt.rest, halt.entry, registers, bus, acts) {
+            return reached;
+        }
+        at = halt.at + 1;
+        left = halt.left - 1;
+    }
+    Reached {
+        count: stop,
+        counter: at as u32,
+    }
+}
+
+/// Runs as many entries as only read the bus, `most` at most.
+#[inline(always)]
+fn run_computed<B: Bus>(first: usize, most: u32, registers: &mut [Word; 16], bus: &B) -> Halt
+    requires { first ≤ TEXT_WORDS }
+    ensures went { (stop : ℕ) (pending : List Fault) (acts : List Act)
+        → most ≤ stop → stop ≤ MOST_INSTRUCTIONS → length acts < MOST_ACTS
+        → ((k : ℕ) → stop - most ≤ k → k < stop → is_due k pending ≡ false)
+        → burst_from (MOST_INSTRUCTIONS - (stop - result.left)) (B.entries bus.now) pending
+        (machine_of (cpu_of result.at registers.new) (B.words bus.now) (B.device bus.now)) acts
+        ≡ burst_from (MOST_INSTRUCTIONS - (stop - most)) (B.entries bus.now) pending
+        (machine_of (cpu_of first registers.old) (B.words bus.now) (B.device bus.now)) acts }
+    ensures most { result.left ≤ most }
+    ensures some { is_done result.rest ≡ false → 0 < result.left }
+    ensures all { is_done result.rest ≡ true → result.left ≡ 0 }
+    ensures inside { result.at ≤ TEXT_WORDS }
+    ensures entry { IsEntryAt (instr_of result.entry) (B.words bus.now) result.at }
+    ensures rest { is_done result.rest ≡ false → instr_of result.entry
+        ≡ rest_instr result.rest result.entry.a result.entry.b result.entry.imm }
+{
+    let text = bus.text();
+    let mut at = first;
+    let mut left = most;
+    while left > 0 {
+        let entry = &text[at];
+        let computed = compute(entry, at, registers, bus);
+        if !is_done(computed.rest) {
+            return Halt {
+                at,
+                left,
+                rest: computed.rest,
+                entry: *entry,
+            };
+        }
+        at = computed.at;
+        left -= 1;
+    }
+    Halt {
+        at,
+        left,
+        rest: Rest::Nothing,
+        entry: text[at],
+    }
+}
+
+/// Runs any one instruction.
+// Not inlined: it is seldom called.
+#[inline(never)]
+fn run_one<B: Bus>(
+    counter: Word,
+    count: u32,
+    registers: &mut [Word; 16],
+    bus: &mut B,
+    acts: &mut ActLog,
+) -> Run
+    requires room { length acts.old < MOST_ACTS }
+    requires within { count < MOST_INSTRUCTIONS }
+    ensures went { (pending : List Fault) → is_due count pending ≡ false
+        → burst_from (MOST_INSTRUCTIONS - count) (B.entries bus.old) pending
+        (machine_of (cpu_of counter registers.old) (B.words bus.old) (B.device bus.old)) acts.old
+        ≡ past_run result.count (B.entries bus.new) pending
+        (machine_of (cpu_of result.counter registers.new) (B.words bus.new) (B.device bus.new))
+        acts.new result.end }
+    ensures room { result.end ≡ None → length acts.new < MOST_ACTS }
+    ensures count { result.count ≡ count + 1 }
+    ensures entries { B.entries bus.new ≡ B.entries bus.old }
+    ensures held { B.held bus.new ≡ B.held bus.old }
+{
+    let next = counter.wrapping_add(1);
+    match take_turn(counter, registers, bus, acts) {
+        InstructionResult::Next => run_to(count + 1, next, None),
+        InstructionResult::Acted if acts.len() >= MOST_ACTS => {
+            run_to(count + 1, next, Some(BurstEnd::Pause))
+        }
+        InstructionResult::Acted => run_to(count + 1, next, None),
+        InstructionResult::To(target) => run_to(count + 1, target, None),
+        InstructionResult::Ended { last, end } => run_to(count + 1, last, Some(end)),
+    }
+}
+
+/// A run that came so far.
+fn run_to(count: u32, counter: Word, end: Option<BurstEnd>) -> Run
+    ensures { result ≡ record { count = count; counter = counter; end = end } }
+{
+    Run {
+        count,
+        counter,
+        end,
     }
 }
 
@@ -246,111 +383,5 @@ fn stopped(count: u32, counter: Word, cause: TrapCause) -> Whole
         count,
         counter,
         end: BurstEnd::Trap(cause),
-    }
-}
-
-/// Strikes the first faults that are due after this many instructions, in order, up to one that is a trap. `counter`
-/// is the processor's, which no fault changes.
-// Most bursts have no faults left, and a walk asks before each instruction.
-#[inline(always)]
-pub fn strike_due<'a, B: Bus>(
-    faults: &'a [Fault],
-    point: u32,
-    counter: Word,
-    registers: &mut [Word; 16],
-    bus: &mut B,
-) -> Struck<'a>
-    ensures struck { strikes_at point (B.entries bus.old) faults.now
-        (machine_of (cpu_of counter registers.old) (B.words bus.old) (B.device bus.old))
-        ≡ record {
-          machine = machine_of (cpu_of counter registers.new) (B.words bus.new) (B.device bus.new);
-          rest = result.rest.now;
-          stopped = result.stopped;
-        } }
-    ensures clear { result.stopped ≡ None → is_due point result.rest.now ≡ false }
-    ensures entries { B.entries bus.new ≡ B.entries bus.old }
-    ensures held { B.held bus.new ≡ B.held bus.old }
-{
-    if faults.is_empty() {
-        return Struck {
-            rest: faults,
-            stopped: None,
-        };
-    }
-    strike_front(faults, point, counter, registers, bus)
-}
-
-/// Does the same for any faults, one after the other.
-#[inline(never)]
-fn strike_front<'a, B: Bus>(
-    faults: &'a [Fault],
-    point: u32,
-    counter: Word,
-    registers: &mut [Word; 16],
-    bus: &mut B,
-) -> Struck<'a>
-    ensures struck { strikes_at point (B.entries bus.old) faults.now
-        (machine_of (cpu_of counter registers.old) (B.words bus.old) (B.device bus.old))
-        ≡ record {
-          machine = machine_of (cpu_of counter registers.new) (B.words bus.new) (B.device bus.new);
-          rest = result.rest.now;
-          stopped = result.stopped;
-        } }
-    ensures clear { result.stopped ≡ None → is_due point result.rest.now ≡ false }
-    ensures entries { B.entries bus.new ≡ B.entries bus.old }
-    ensures held { B.held bus.new ≡ B.held bus.old }
-{
-    let mut rest = faults;
-    while let [fault, more @ ..] = rest {
-        if fault.after != point {
-            break;
-        }
-        rest = more;
-        if let Some(cause) = strike(fault.kind, counter, registers, bus) {
-            return Struck {
-                rest,
-                stopped: Some(cause),
-            };
-        }
-    }
-    Struck {
-        rest,
-        stopped: None,
-    }
-}
-
-/// Strikes one fault, and returns its trap if it is one. A Poke, a Code or a Reg without a valid target does nothing.
-fn strike<B: Bus>(
-    kind: FaultKind,
-    counter: Word,
-    registers: &mut [Word; 16],
-    bus: &mut B,
-) -> Option<TrapCause>
-    ensures struck { struck_machine (B.entries bus.old) kind
-        (machine_of (cpu_of counter registers.old) (B.words bus.old) (B.device bus.old))
-        ≡ machine_of (cpu_of counter registers.new) (B.words bus.new) (B.device bus.new) }
-    ensures trap { result ≡ trap_of kind }
-    ensures entries { B.entries bus.new ≡ B.entries bus.old }
-    ensures held { B.held bus.new ≡ B.held bus.old }
-{
-    match kind {
-        FaultKind::Trap => Some(TrapCause::Injected),
-        FaultKind::Hang => Some(TrapCause::Hang),
-        FaultKind::Poke { address, value } => {
-            let _written = bus.write(address, value);
-            None
-        }
-        FaultKind::Code { address, value } => {
-            if address < TEXT_WORDS {
-                bus.poke_text(address, value);
-            }
-            None
-        }
-        FaultKind::Reg { register, value } => {
-            if register < 16 {
-                registers[register as usize] = value;
-            }
-            None
-        }
     }
 }

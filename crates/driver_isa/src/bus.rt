@@ -2,17 +2,17 @@
 
 ghost use Rattle.std.specs.Prelude.{◌≡◌, ◌<◌, ℕ, List, IsNone, length, slice_set};
 ghost use Rattle.std.specs.Borrow.{GName};
-ghost use Rattle.driver_isa.specs.Steps.{fetched};
+ghost use Rattle.driver_isa.specs.Entries.{IsDecodedText};
 ghost use Rattle.machine_defs.specs.Devices.{input_of, output_of};
 ghost use Rattle.machine_defs.specs.Views.Ports.{IsTaken, given_by};
 ghost use Rattle.machine_defs.specs.Pages.{may_write, read_word, written};
 ghost use Rattle.nook_data.specs.declared.devices.DeviceState.{DeviceState};
 ghost use Rattle.nook_data.specs.declared.entries.Entry.{Entry};
 
+use crate::instructions::Decoded;
 use nook_data::journal::ActLog;
 use nook_data::limits::MOST_ACTS;
 use nook_data::lists::Word;
-use nook_data::machine::Instr;
 use nook_data::memory_map::TEXT_WORDS;
 
 /// The memory and the device of a driver, as its machine reaches them. No call takes memory.
@@ -27,9 +27,9 @@ pub trait Bus {
 
     ghost held: { Self → List GName };
 
-    /// The instruction of the text word at `address`, if that is one; `None` if the word may not be fetched.
-    fn fetch(&self, address: u32) -> Option<Option<Instr>>
-        ensures { result ≡ fetched (words self.now) address };
+    /// The decoded words of the text, and after them an entry that is no instruction.
+    fn text(&self) -> &[Decoded]
+        ensures { IsDecodedText result.now (words self.now) };
 
     /// The word at `address`; `None` if it may not be read.
     fn read(&self, address: u32) -> Option<Word>

@@ -2,12 +2,13 @@
 
 ghost use Rattle.std.specs.Prelude.{◌≡◌, ◌<◌, Some, true, IfSome};
 ghost use Rattle.driver_isa.specs.Decoding.{instr_of};
+ghost use Rattle.driver_isa.specs.Entries.{entry_of};
 ghost use Rattle.driver_isa.specs.Fields.{has_registers};
 ghost use Rattle.machine_defs.specs.Machine.{a_field, b_field, decode_of, encode_of, has_no_other, imm_field, op_field};
 ghost use Rattle.machine_defs.specs.Machine.{word_of};
 
 use crate::instructions::{
-    Decoded, Op, decoded_with, fields_of, instr_of, mnemonic_numbered, op_of, row_of,
+    Decoded, Op, decoded_with, entry_from, fields_of, instr_of, mnemonic_numbered, op_of, row_of,
 };
 use nook_data::lists::Word;
 use nook_data::machine::{Form, Instr};
@@ -35,6 +36,13 @@ pub fn decoded_of(word: Word) -> Decoded
         }
         _ => decoded_with(Op::None, 0, 0, 0),
     }
+}
+
+/// Decodes a word of text for the burst loop.
+pub fn entry_of(word: Word) -> Decoded
+    ensures { instr_of result ≡ entry_of word }
+{
+    entry_from(decoded_of(word))
 }
 
 /// Returns whether the fields that a form does not have are 0.

@@ -2,9 +2,11 @@
 
 ghost use Rattle.std.specs.Prelude.{◌≡◌, ℕ, Some, false, true};
 ghost use Rattle.driver_isa.specs.Decoding.{instr_of, op_instr};
+ghost use Rattle.driver_isa.specs.Entries.{in_text};
 ghost use Rattle.machine_defs.specs.Mnemonics.{fields, fields_of, instr_with, instruction_row, mnemonic_numbered};
 
 use nook_data::machine::{Form, Instr, Mnemonic};
+use nook_data::memory_map::TEXT_WORDS;
 use std::marker::Model;
 
 /// A row of the table: an instruction's name, number and form, and whether it reads and whether it sets register a.
@@ -149,37 +151,14 @@ fn row(name: &'static str, number: u8, form: Form) -> InstructionRow
     }
 }
 
-/// The mnemonic with this number.
+/// The mnemonic with this number: numbers are those of the table, from 1.
 pub fn mnemonic_numbered(number: u8) -> Option<Mnemonic>
     ensures { result ≡ mnemonic_numbered number }
 {
-    match number {
-        0x01 => Some(Mnemonic::Li),
-        0x02 => Some(Mnemonic::Lui),
-        0x03 => Some(Mnemonic::Mov),
-        0x04 => Some(Mnemonic::Add),
-        0x05 => Some(Mnemonic::Sub),
-        0x06 => Some(Mnemonic::And),
-        0x07 => Some(Mnemonic::Or),
-        0x08 => Some(Mnemonic::Xor),
-        0x09 => Some(Mnemonic::Shl),
-        0x0a => Some(Mnemonic::Shr),
-        0x0b => Some(Mnemonic::Addi),
-        0x0c => Some(Mnemonic::Ld),
-        0x0d => Some(Mnemonic::St),
-        0x0e => Some(Mnemonic::Jmp),
-        0x0f => Some(Mnemonic::Beq),
-        0x10 => Some(Mnemonic::Bne),
-        0x11 => Some(Mnemonic::Blt),
-        0x12 => Some(Mnemonic::Jal),
-        0x13 => Some(Mnemonic::Jr),
-        0x14 => Some(Mnemonic::In),
-        0x15 => Some(Mnemonic::Out),
-        0x16 => Some(Mnemonic::Kcall),
-        0x17 => Some(Mnemonic::Ret),
-        0x18 => Some(Mnemonic::Fault),
-        _ => None,
+    if number == 0 || number as usize > MNEMONICS.len() {
+        return None;
     }
+    Some(MNEMONICS[number as usize - 1])
 }
 
 /// The instruction of a mnemonic and its operands; operands that its form lacks are ignored.
@@ -342,10 +321,10 @@ pub fn op_of(mnemonic: Mnemonic) -> Op
 // instruction. Here each is read where it is used. It has eight bytes, so that its address in a list is one step.
 #[derive(Clone, Copy)]
 pub struct Decoded {
-    op: Op,
-    a: u8,
-    b: u8,
-    imm: u16,
+    pub(crate) op: Op,
+    pub(crate) a: u8,
+    pub(crate) b: u8,
+    pub(crate) imm: u16,
     unused: u16,
 }
 
@@ -363,8 +342,6 @@ pub fn decoded_with(op: Op, a: u8, b: u8, imm: u16) -> Decoded
 }
 
 /// The instruction, if it is one.
-// When this is inlined, the matches on the op and on the instruction become one.
-#[inline(always)]
 pub fn instr_of(decoded: &Decoded) -> Option<Instr>
     ensures { result ≡ instr_of decoded.now }
 {
@@ -458,4 +435,16 @@ pub fn instr_of(decoded: &Decoded) -> Option<Instr>
         Op::Ret => Some(Instr::Ret { a: decoded.a }),
         Op::Fault => Some(Instr::Fault),
     }
+}
+
+/// A decoded word as an entry of the text: a jump to an address outside it is no instruction here.
+// So a burst follows a jump without a test of its target.
+pub fn entry_from(decoded: Decoded) -> Decoded
+    ensures { instr_of result ≡ in_text (instr_of decoded) }
+{
+    let jumps = matches!(decoded.op, Op::Jmp | Op::Beq | Op::Bne | Op::Blt | Op::Jal);
+    if jumps && u32::from(decoded.imm) >= TEXT_WORDS {
+        return decoded_with(Op::None, 0, 0, 0);
+    }
+    decoded
 }

@@ -6,12 +6,14 @@
 mod burst;
 mod bus;
 mod code;
+mod faults;
 pub mod instructions;
 pub mod laws;
 mod turn;
 
-pub use burst::{BurstDone, Struck, run_burst, strike_due};
+pub use burst::{BurstDone, run_burst};
 pub use bus::Bus;
-pub use code::{decode, decoded_of, encode};
+pub use code::{decode, decoded_of, encode, entry_of};
+pub use faults::{Hit, Struck, strike, strike_due};
 pub use instructions::{Decoded, instr_of};
 pub use turn::turn as run_turn;

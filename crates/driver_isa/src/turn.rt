@@ -1,18 +1,24 @@
 //! One machine instruction: the word at the counter is fetched and executed.
 
-ghost use Rattle.std.specs.Prelude.{◌≡◌, ◌+◌, ◌*◌, ◌%◌, ◌^◌, ◌<◌, None, Some, true, length, slice_index, slice_set};
+ghost use Rattle.std.specs.Prelude.{◌≡◌, ℕ, ◌+◌, ◌*◌, ◌%◌, ◌^◌, ◌<◌, ◌≤◌, IfSome, None, Some, false, true, length, slice_index, slice_set, if◌then◌else◌};
+ghost use Rattle.driver_isa.specs.Decoding.{instr_of};
+ghost use Rattle.driver_isa.specs.Entries.{executed_entry, is_done, rest_instr, stays_in_text};
 ghost use Rattle.driver_isa.specs.Fields.{has_registers};
-ghost use Rattle.driver_isa.specs.Steps.{cpu_of, crossing_of, is_quiet, next_of, target_where};
+ghost use Rattle.driver_isa.specs.Steps.{cpu_of, crossing_of, is_quiet, next_of};
 ghost use Rattle.driver_isa.specs.Turns.{IsExecuted, machine_of, quiet};
-ghost use Rattle.machine_defs.specs.Execution.{next_counter, executed, loads, past_input, past_output, stores};
+ghost use Rattle.machine_defs.specs.Execution.{goes, next_counter, loads, past_input, past_output, stores};
+ghost use Rattle.machine_defs.specs.Machine.{decode_of};
 ghost use Rattle.machine_defs.specs.Execution.{turn as machine_turn};
 ghost use Rattle.machine_defs.specs.Devices.{input_of, output_of};
 
 use crate::bus::Bus;
+use crate::code::decoded_of;
+use crate::instructions::{Decoded, Op, instr_of};
 use nook_data::journal::ActLog;
 use nook_data::limits::MOST_ACTS;
 use nook_data::lists::Word;
-use nook_data::machine::{BurstEnd, Cpu, Instr, TrapCause};
+use nook_data::machine::{BurstEnd, Cpu, TrapCause};
+use nook_data::memory_map::TEXT_WORDS;
 
 /// What an instruction leads to.
 #[derive(Clone, Copy)]
@@ -53,8 +59,31 @@ pub fn turn<B: Bus>(cpu: &mut Cpu, bus: &mut B, acts: &mut ActLog) -> Option<Bur
     }
 }
 
+/// What is left to do of an instruction after what only reads the bus.
+#[derive(Clone, Copy)]
+pub enum Rest {
+    Nothing,
+    /// A jump to an address in a register that is outside the text.
+    Jump,
+    /// A load from an address outside memory.
+    Load,
+    Store,
+    Input,
+    Output,
+    Call,
+    Reply,
+    Explicit,
+    NoInstruction,
+}
+
+/// An entry computed as far as it only reads the bus: where it leads, if nothing is left to do.
+#[derive(Clone, Copy)]
+pub struct Computed {
+    pub at: usize,
+    pub rest: Rest,
+}
+
 /// Executes the word at a counter. The counter is passed and returned by value, so a loop keeps it in a register.
-#[inline(always)]
 #[tactic(auto, unfolding(machine_defs::specs::Execution::turn))]
 pub fn take_turn<B: Bus>(
     counter: Word,
@@ -73,27 +102,162 @@ pub fn take_turn<B: Bus>(
     ensures entries { B.entries bus.new ≡ B.entries bus.old }
     ensures held { B.held bus.new ≡ B.held bus.old }
 {
-    match bus.fetch(counter) {
-        Some(Some(instr)) => perform(instr, counter, registers, bus, acts),
-        Some(None) => trap(counter, TrapCause::BadOpcode),
-        None => trap(counter, TrapCause::BadFetch),
+    if counter >= TEXT_WORDS {
+        return trap(counter, TrapCause::BadFetch);
+    }
+    let entry = entry_at(bus, counter);
+    let computed = compute(&entry, counter as usize, registers, bus);
+    if is_done(computed.rest) {
+        InstructionResult::To(computed.at as u32)
+    } else {
+        perform(computed.rest, &entry, counter, registers, bus, acts)
     }
 }
 
-/// Executes a decoded instruction.
+/// The decoded word at an address of the text.
+fn entry_at<B: Bus>(bus: &B, address: u32) -> Decoded
+    requires { address < TEXT_WORDS }
+    ensures decoded { instr_of result ≡ decode_of (slice_index (B.words bus.now) address) }
+    ensures registers { IfSome (instr_of result) (λ i. has_registers i ≡ true) }
+{
+    let entry = bus.text()[address as usize];
+    match instr_of(&entry) {
+        Some(_) => entry,
+        None => decoded_of(bus.read(address).unwrap_or(0)),
+    }
+}
+
+/// Whether nothing is left to do of an instruction.
+pub fn is_done(rest: Rest) -> bool
+    ensures { result ≡ is_done rest }
+{
+    matches!(rest, Rest::Nothing)
+}
+
+/// Executes an entry as far as that only reads the bus: all of it, or nothing.
 #[inline(always)]
+pub fn compute<B: Bus>(entry: &Decoded, at: usize, registers: &mut [Word; 16], bus: &B) -> Computed
+    requires at { at ≤ TEXT_WORDS }
+    requires fields { IfSome (instr_of entry.now) (λ i. has_registers i ≡ true) }
+    ensures going { is_done result.rest ≡ true
+        → executed_entry (B.entries bus.now)
+        (machine_of (cpu_of at registers.old) (B.words bus.now) (B.device bus.now))
+        (instr_of entry.now)
+        ≡ goes (machine_of (cpu_of result.at registers.new)
+        (B.words bus.now) (B.device bus.now)) }
+    ensures left { is_done result.rest ≡ false → registers.new ≡ registers.old }
+    ensures rest { is_done result.rest ≡ false
+        → instr_of entry.now ≡ rest_instr result.rest entry.now.a entry.now.b entry.now.imm }
+    ensures inside { IfSome (instr_of entry.now) (λ i. stays_in_text i ≡ true)
+        → is_done result.rest ≡ true → at < TEXT_WORDS → result.at ≤ TEXT_WORDS }
+    ensures word { result.at < 2 ^ 32 }
+{
+    match entry.op {
+        Op::None => leaving(Rest::NoInstruction, at),
+        Op::Li => put(registers, entry.a, u32::from(entry.imm), at),
+        Op::Lui => put(
+            registers,
+            entry.a,
+            with_upper(register(registers, entry.a), entry.imm),
+            at,
+        ),
+        Op::Mov => put(registers, entry.a, register(registers, entry.b), at),
+        Op::Add => put(
+            registers,
+            entry.a,
+            register(registers, entry.a).wrapping_add(register(registers, entry.b)),
+            at,
+        ),
+        Op::Sub => put(
+            registers,
+            entry.a,
+            register(registers, entry.a).wrapping_sub(register(registers, entry.b)),
+            at,
+        ),
+        Op::And => put(
+            registers,
+            entry.a,
+            register(registers, entry.a) & register(registers, entry.b),
+            at,
+        ),
+        Op::Or => put(
+            registers,
+            entry.a,
+            register(registers, entry.a) | register(registers, entry.b),
+            at,
+        ),
+        Op::Xor => put(
+            registers,
+            entry.a,
+            register(registers, entry.a) ^ register(registers, entry.b),
+            at,
+        ),
+        Op::Shl => put(
+            registers,
+            entry.a,
+            register(registers, entry.a) << (register(registers, entry.b) % 32),
+            at,
+        ),
+        Op::Shr => put(
+            registers,
+            entry.a,
+            register(registers, entry.a) >> (register(registers, entry.b) % 32),
+            at,
+        ),
+        Op::Addi => put(
+            registers,
+            entry.a,
+            offset(registers, entry.b, entry.imm),
+            at,
+        ),
+        Op::Ld => match bus.read(offset(registers, entry.b, entry.imm)) {
+            Some(word) => put(registers, entry.a, word, at),
+            None => leaving(Rest::Load, at),
+        },
+        Op::Jmp => jump(entry.imm),
+        Op::Beq => branch(
+            register(registers, entry.a) == register(registers, entry.b),
+            entry.imm,
+            at,
+        ),
+        Op::Bne => branch(
+            register(registers, entry.a) != register(registers, entry.b),
+            entry.imm,
+            at,
+        ),
+        Op::Blt => branch(
+            register(registers, entry.a) < register(registers, entry.b),
+            entry.imm,
+            at,
+        ),
+        Op::Jal => link(registers, entry.a, entry.imm, at),
+        Op::Jr => jump_to(register(registers, entry.a), at),
+        Op::St => leaving(Rest::Store, at),
+        Op::In => leaving(Rest::Input, at),
+        Op::Out => leaving(Rest::Output, at),
+        Op::Kcall => leaving(Rest::Call, at),
+        Op::Ret => leaving(Rest::Reply, at),
+        Op::Fault => leaving(Rest::Explicit, at),
+    }
+}
+
+/// Does what is left of an instruction.
 fn perform<B: Bus>(
-    instr: Instr,
+    rest: Rest,
+    entry: &Decoded,
     counter: Word,
     registers: &mut [Word; 16],
     bus: &mut B,
     acts: &mut ActLog,
 ) -> InstructionResult
-    requires fields { has_registers instr ≡ true }
+    requires fields { IfSome (instr_of entry.now) (λ i. has_registers i ≡ true) }
+    requires some { is_done rest ≡ false }
+    requires rest { instr_of entry.now ≡ rest_instr rest entry.now.a entry.now.b entry.now.imm }
     requires room { length acts.old < MOST_ACTS }
     ensures turned { IsExecuted
-        (executed (B.entries bus.old)
-        (machine_of (cpu_of counter registers.old) (B.words bus.old) (B.device bus.old)) instr)
+        (executed_entry (B.entries bus.old)
+        (machine_of (cpu_of counter registers.old) (B.words bus.old) (B.device bus.old))
+        (instr_of entry.now))
         (machine_of (cpu_of (next_of counter result) registers.new)
         (B.words bus.new) (B.device bus.new))
         acts.old acts.new (crossing_of result) }
@@ -101,69 +265,88 @@ fn perform<B: Bus>(
     ensures entries { B.entries bus.new ≡ B.entries bus.old }
     ensures held { B.held bus.new ≡ B.held bus.old }
 {
-    match instr {
-        Instr::Li { a, imm } => put(registers, a, u32::from(imm)),
-        Instr::Lui { a, imm } => put(registers, a, with_upper(register(registers, a), imm)),
-        Instr::Mov { a, b } => put(registers, a, register(registers, b)),
-        Instr::Add { a, b } => put(
+    match rest {
+        Rest::Nothing => InstructionResult::Next,
+        Rest::Jump => InstructionResult::To(register(registers, entry.a)),
+        Rest::Load => load(
+            counter,
             registers,
-            a,
-            register(registers, a).wrapping_add(register(registers, b)),
+            bus,
+            entry.a,
+            offset(registers, entry.b, entry.imm),
         ),
-        Instr::Sub { a, b } => put(
+        Rest::Store => store(
+            counter,
             registers,
-            a,
-            register(registers, a).wrapping_sub(register(registers, b)),
+            bus,
+            entry.a,
+            offset(registers, entry.b, entry.imm),
         ),
-        Instr::And { a, b } => put(
-            registers,
-            a,
-            register(registers, a) & register(registers, b),
-        ),
-        Instr::Or { a, b } => put(
-            registers,
-            a,
-            register(registers, a) | register(registers, b),
-        ),
-        Instr::Xor { a, b } => put(
-            registers,
-            a,
-            register(registers, a) ^ register(registers, b),
-        ),
-        Instr::Shl { a, b } => put(
-            registers,
-            a,
-            register(registers, a) << (register(registers, b) % 32),
-        ),
-        Instr::Shr { a, b } => put(
-            registers,
-            a,
-            register(registers, a) >> (register(registers, b) % 32),
-        ),
-        Instr::Addi { a, b, imm } => put(registers, a, offset(registers, b, imm)),
-        Instr::Ld { a, b, imm } => load(counter, registers, bus, a, offset(registers, b, imm)),
-        Instr::St { a, b, imm } => store(counter, registers, bus, a, offset(registers, b, imm)),
-        Instr::Jmp { imm } => InstructionResult::To(u32::from(imm)),
-        Instr::Beq { a, b, imm } => branch(register(registers, a) == register(registers, b), imm),
-        Instr::Bne { a, b, imm } => branch(register(registers, a) != register(registers, b), imm),
-        Instr::Blt { a, b, imm } => branch(register(registers, a) < register(registers, b), imm),
-        Instr::Jal { a, imm } => link(counter, registers, a, imm),
-        Instr::Jr { a } => InstructionResult::To(register(registers, a)),
-        Instr::In { a, imm } => take(counter, registers, bus, a, imm),
-        Instr::Out { a, imm } => give(counter, registers, bus, acts, a, imm),
-        Instr::Kcall { imm } => cross(
+        Rest::Input => take(counter, registers, bus, entry.a, entry.imm),
+        Rest::Output => give(counter, registers, bus, acts, entry.a, entry.imm),
+        Rest::Call => cross(
             counter,
             BurstEnd::Kcall {
-                service: u32::from(imm),
+                service: u32::from(entry.imm),
             },
         ),
-        Instr::Ret { a } => cross(
+        Rest::Reply => cross(
             counter,
             BurstEnd::Reply {
-                status: register(registers, a),
+                status: register(registers, entry.a),
             },
         ),
-        Instr::Fault => trap(counter, TrapCause::Explicit),
+        Rest::Explicit => trap(counter, TrapCause::Explicit),
+        Rest::NoInstruction => trap(counter, TrapCause::BadOpcode),
+    }
+}
+
+/// Does what is left of an instruction, unless it ends the burst or leaves the text; false if it may, with nothing
+/// changed.
+#[inline(always)]
+pub fn finish<B: Bus>(
+    rest: Rest,
+    entry: Decoded,
+    registers: &mut [Word; 16],
+    bus: &mut B,
+    acts: &mut ActLog,
+) -> bool
+    requires fields { IfSome (instr_of entry) (λ i. has_registers i ≡ true) }
+    requires some { is_done rest ≡ false }
+    requires rest { instr_of entry ≡ rest_instr rest entry.a entry.b entry.imm }
+    requires room { length acts.old < MOST_ACTS }
+    ensures done { result ≡ true → (counter : ℕ) → IsExecuted
+        (executed_entry (B.entries bus.old)
+        (machine_of (cpu_of counter registers.old) (B.words bus.old) (B.device bus.old))
+        (instr_of entry))
+        (machine_of (cpu_of (next_counter counter) registers.new)
+        (B.words bus.new) (B.device bus.new))
+        acts.old acts.new None }
+    ensures unchanged { result ≡ false → (counter : ℕ)
+        → machine_of (cpu_of counter registers.new) (B.words bus.new) (B.device bus.new)
+        ≡ machine_of (cpu_of counter registers.old) (B.words bus.old) (B.device bus.old) }
+    ensures acts { result ≡ false → acts.new ≡ acts.old }
+    ensures room { length acts.new < MOST_ACTS }
+    ensures entries { B.entries bus.new ≡ B.entries bus.old }
+    ensures held { B.held bus.new ≡ B.held bus.old }
+{
+    match rest {
+        Rest::Store => bus.write(
+            offset(registers, entry.b, entry.imm),
+            register(registers, entry.a),
+        ),
+        Rest::Input => match bus.input(u32::from(entry.imm)) {
+            Some(word) => {
+                registers[entry.a as usize] = word;
+                true
+            }
+            None => false,
+        },
+        Rest::Output => {
+            acts.len() + 1 < MOST_ACTS
+                && bus.output(u32::from(entry.imm), register(registers, entry.a), acts)
+        }
+        _ => false,
     }
 }
 
@@ -211,7 +394,7 @@ fn cross(counter: Word, end: BurstEnd) -> InstructionResult
 }
 
 /// Sets a register.
-fn put(registers: &mut [Word; 16], a: u8, word: Word) -> InstructionResult
+fn set(registers: &mut [Word; 16], a: u8, word: Word) -> InstructionResult
     requires { a < 16 }
     ensures registers { registers.new ≡ slice_set registers.old a word }
     ensures goes_on { result ≡ InstructionResult.Next }
@@ -220,25 +403,81 @@ fn put(registers: &mut [Word; 16], a: u8, word: Word) -> InstructionResult
     InstructionResult::Next
 }
 
-/// Jumps to `target` if the comparison holds.
-fn branch(holds: bool, target: u16) -> InstructionResult
-    ensures { result ≡ target_where holds target }
+/// An instruction of which something is left to do.
+fn leaving(rest: Rest, at: usize) -> Computed
+    ensures rest { result.rest ≡ rest }
+    ensures at { result.at ≡ at }
 {
-    if holds {
-        InstructionResult::To(u32::from(target))
-    } else {
-        InstructionResult::Next
+    Computed { at, rest }
+}
+
+/// Sets a register, and leads to the next word.
+fn put(registers: &mut [Word; 16], a: u8, word: Word, at: usize) -> Computed
+    requires register { a < 16 }
+    requires at { at ≤ TEXT_WORDS }
+    ensures registers { registers.new ≡ slice_set registers.old a word }
+    ensures goes_on { result ≡ record { at = next_counter at; rest = Rest.Nothing } }
+{
+    registers[a as usize] = word;
+    Computed {
+        at: at + 1,
+        rest: Rest::Nothing,
     }
 }
 
-/// Jumps to `target`, and sets a register to the next word's address.
-fn link(counter: Word, registers: &mut [Word; 16], a: u8, target: u16) -> InstructionResult
-    requires { a < 16 }
-    ensures registers { registers.new ≡ slice_set registers.old a (next_counter counter) }
-    ensures goes { result ≡ InstructionResult.To target }
+/// Leads to a target.
+fn jump(target: u16) -> Computed
+    ensures goes { result ≡ record { at = target; rest = Rest.Nothing } }
+    ensures word { result.at < 2 ^ 32 }
 {
-    registers[a as usize] = counter.wrapping_add(1);
-    InstructionResult::To(u32::from(target))
+    Computed {
+        at: usize::from(target),
+        rest: Rest::Nothing,
+    }
+}
+
+/// Leads to a target in a register, if that is in the text.
+fn jump_to(target: Word, at: usize) -> Computed
+    requires { at ≤ TEXT_WORDS }
+    ensures inside { target < TEXT_WORDS → result ≡ record { at = target; rest = Rest.Nothing } }
+    ensures outside { TEXT_WORDS ≤ target → result ≡ record { at = at; rest = Rest.Jump } }
+{
+    if target < TEXT_WORDS {
+        Computed {
+            at: target as usize,
+            rest: Rest::Nothing,
+        }
+    } else {
+        leaving(Rest::Jump, at)
+    }
+}
+
+/// Leads to a target if the comparison holds.
+fn branch(holds: bool, target: u16, at: usize) -> Computed
+    requires { at ≤ TEXT_WORDS }
+    ensures goes { result ≡ record {
+      at = if holds then target else next_counter at;
+      rest = Rest.Nothing;
+    } }
+    ensures word { result.at < 2 ^ 32 }
+{
+    let next = if holds { usize::from(target) } else { at + 1 };
+    Computed {
+        at: next,
+        rest: Rest::Nothing,
+    }
+}
+
+/// Leads to a target, and sets a register to the next word's address.
+fn link(registers: &mut [Word; 16], a: u8, target: u16, at: usize) -> Computed
+    requires register { a < 16 }
+    requires at { at ≤ TEXT_WORDS }
+    ensures registers { registers.new ≡ slice_set registers.old a (next_counter at) }
+    ensures goes { result ≡ record { at = target; rest = Rest.Nothing } }
+    ensures word { result.at < 2 ^ 32 }
+{
+    registers[a as usize] = at as u32 + 1;
+    jump(target)
 }
 
 /// Loads the word at `address` into a register.
@@ -256,7 +495,7 @@ fn load<B: Bus>(
         (B.words bus.now) (B.device bus.now)) (crossing_of result) }
 {
     match bus.read(address) {
-        Some(word) => put(registers, a, word),
+        Some(word) => set(registers, a, word),
         None => trap(counter, TrapCause::BadRead { address }),
     }
 }
@@ -303,7 +542,7 @@ fn take<B: Bus>(
 {
     let port = u32::from(port);
     match bus.input(port) {
-        Some(word) => put(registers, a, word),
+        Some(word) => set(registers, a, word),
         None => trap(counter, TrapCause::BadPort { port }),
     }
 }

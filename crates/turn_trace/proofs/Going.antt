@@ -21,7 +21,8 @@ use Rattle.report_text.specs.Writing.{Wrote}
 use Rattle.report_text.specs.declared.write.WriteStop.{WriteStop}
 use Rattle.report_text.specs.declared.write.WriteStop.TheVariants.{Fault as SinkFault, NoMemory as SinkNoMemory}
 use Rattle.turn_trace.specs.Bursts.{TracedBurst, TracedStep, rest_after, following_crossing, after_strikes, following_turn, burst_trace, finished, strike, struck_at, taken, trace_from, up_to_trap}
-use Rattle.turn_trace.specs.Lines.{fault_text, is_refused, refusal_text, step_line, step_lines, strike_line, turn_line, unstruck_line, unstruck_lines}
+use Rattle.driver_isa.specs.Faults.{is_refused}
+use Rattle.turn_trace.specs.Lines.{fault_text, refusal_text, step_line, step_lines, strike_line, turn_line, unstruck_line, unstruck_lines}
 use Rattle.turn_trace.specs.Turns.{traced}
 use Rattle.turn_trace.specs.declared.traced.TracedTurn.{TracedTurn}
 

@@ -1,4 +1,4 @@
-use Rattle.std.specs.Prelude.{ℕ, suc, ◌++◌, ◌==◌, nat_lt, not, if◌then◌else◌, Bool, true, false, Option, Some, None}
+use Rattle.std.specs.Prelude.{ℕ, suc, ◌++◌, ◌==◌, if◌then◌else◌, Bool, true, false, Option, Some, None}
 use Rattle.std.specs.Prelude.{List, [], ◌∷◌, codes, decimal, flat_map}
 use Rattle.nook_data.specs.declared.entries.Entry.{Entry}
 use Rattle.nook_data.specs.declared.scenario.Fault.{Fault}
@@ -6,9 +6,8 @@ use Rattle.nook_data.specs.declared.scenario.FaultKind.{FaultKind}
 use Rattle.nook_data.specs.declared.scenario.FaultKind.TheVariants as fault
 use Rattle.nook_data.specs.FaultNames.{fault_name, fault_word}
 use Rattle.nook_data.specs.declared.machine.Cpu.{Cpu}
-use Rattle.nook_data.specs.declared.memory_map.TheConstants.{TEXT_WORDS}
 use Rattle.asm_defs.specs.Disassembler.{line_body, text_tokens}
-use Rattle.machine_defs.specs.Pages.{may_write}
+use Rattle.driver_isa.specs.Faults.{is_refused}
 use Rattle.report_defs.specs.ReportLines.{acts_tail, line_feed, spaced, with_number}
 use Rattle.turn_trace.specs.Bursts.{TracedStep, strike, taken}
 use Rattle.turn_trace.specs.declared.traced.TracedTurn.{TracedTurn}
@@ -32,14 +31,6 @@ kind_text kind = fault_word (fault_name kind) ++ operands_text kind
 -- a word, the number of instructions before the fault, and its kind
 abbrev pub fault_text : List ℕ → Fault → List ℕ
 fault_text word f = with_number word f.after ++ (codes " " ++ kind_text f.kind)
-
--- a fault writes nothing, since its address may not be written
-abbrev pub is_refused : List Entry → FaultKind → Bool
-is_refused entries fault.Trap = false
-is_refused entries fault.Hang = false
-is_refused entries (fault.Poke address value) = not (may_write entries address)
-is_refused entries (fault.Code address value) = not (nat_lt address TEXT_WORDS)
-is_refused entries (fault.Reg register value) = false
 
 abbrev pub refusal_text : Bool → List ℕ
 refusal_text true = codes " refused"

@@ -4,7 +4,6 @@
 
 mod laws;
 mod lines;
-mod striking;
 mod traced;
 mod tracing;
 mod writing;

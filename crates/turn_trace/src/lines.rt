@@ -1,18 +1,17 @@
 //! The lines of a burst's steps: each call appends to a line. The caller drops the line after `NoMemory`.
 
 ghost use Rattle.std.specs.Prelude.{◌≡◌, ◌++◌, OnOk, codes};
-ghost use Rattle.turn_trace.specs.Lines.{effects_text, fault_text, fetch_text, jumped_text, refusal_text};
+ghost use Rattle.turn_trace.specs.Lines.{effects_text, fault_text, fetch_text, jumped_text, kind_text, refusal_text};
 ghost use Rattle.turn_trace.specs.Lines.{register_note, register_notes, set_text, start_line, stored_text, turn_line};
 ghost use Rattle.turn_trace.specs.Lines.{unstruck_line, word_text};
-ghost use Rattle.report_defs.specs.ReportLines.{line_feed};
+ghost use Rattle.report_defs.specs.ReportLines.{line_feed, spaced};
 
-use crate::striking::push_kind;
 use crate::traced::TracedTurn;
 use driver_asm::word_text;
 use nook_data::lists::Word;
 use nook_data::machine::Cpu;
 use nook_data::memory::NoMemory;
-use nook_data::scenario::Fault;
+use nook_data::scenario::{Fault, FaultKind, fault_name, fault_word};
 use report_text::{Line, push_acts_tail, push_number};
 use std::alloc::Global;
 
@@ -145,4 +144,25 @@ fn push_fault(line: &mut Line, word: &str, fault: &Fault) -> Result<(), NoMemory
     push_number(line, word, u64::from(fault.after))?;
     line.push(" ")?;
     push_kind(line, fault.kind)
+}
+
+/// A kind of fault, with what it writes and where.
+fn push_kind(line: &mut Line, kind: FaultKind) -> Result<(), NoMemory>
+    ensures { OnOk result (line.new ≡ line.old ++ kind_text kind) }
+{
+    line.push(fault_word(fault_name(kind)))?;
+    match kind {
+        FaultKind::Trap | FaultKind::Hang => Ok(()),
+        FaultKind::Poke { address, value } => push_writing(line, address, value),
+        FaultKind::Code { address, value } => push_writing(line, address, value),
+        FaultKind::Reg { register, value } => push_writing(line, u32::from(register), value),
+    }
+}
+
+/// An address or a register, and the value that is written there.
+fn push_writing(line: &mut Line, target: u32, value: u32) -> Result<(), NoMemory>
+    ensures { OnOk result (line.new ≡ line.old ++ (spaced target ++ spaced value)) }
+{
+    push_number(line, " ", u64::from(target))?;
+    push_number(line, " ", u64::from(value))
 }

@@ -8,10 +8,9 @@ ghost use Rattle.nook_io.specs.Changes.{change};
 ghost use Rattle.report_text.specs.Writing.{Wrote};
 ghost use Rattle.turn_trace.specs.Lines.{step_lines};
 
-use crate::striking::strike;
 use crate::traced::take_turn;
 use crate::writing::{write_strike, write_turn};
-use driver_isa::Bus;
+use driver_isa::{Bus, strike};
 use nook_data::journal::SpareRooms;
 use nook_data::limits::{MOST_ACTS, MOST_INSTRUCTIONS};
 use nook_data::machine::{Cpu, TrapCause};
@@ -101,7 +100,7 @@ fn strike_due<'a, B: Bus, K: Sink>(
             break;
         }
         rest = more;
-        let hit = strike(fault.kind, cpu, bus);
+        let hit = strike(fault.kind, cpu.counter, &mut cpu.registers, bus);
         write_strike(sink, line, fault, hit.refused)?;
         if hit.stopped.is_some() {
             return Ok(Struck {

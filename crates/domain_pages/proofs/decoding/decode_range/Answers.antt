@@ -7,8 +7,8 @@ pub loop-address-preserved : goal.loop-address-preserved
 loop-address-preserved c =
     let ds = c.loop-address.decoded in
     let at = c.loop-address.address in (
-      length-set ds at c.decoded_of.result ∙ c.loop-address.invariant.0,
-      one_more ds c.args.text.now at c.args.end c.decoded_of.result (omega (arith, c.loop-address-test.true, c.loop-address.invariant.0, c.requires.within)) c.decoded_of.ensures c.loop-address.invariant.1,
+      length-set ds at c.entry_of.result ∙ c.loop-address.invariant.0,
+      one_more ds c.args.text.now at c.args.end c.entry_of.result (omega (arith, c.loop-address-test.true, c.loop-address.invariant.0, c.requires.within)) c.entry_of.ensures c.loop-address.invariant.1,
     )
 
 pub returns : goal.returns

@@ -12,7 +12,7 @@ invariant_of-result c =
       framed_opening _ (ap length c.in_ok-frames.ensures ∙ length-opening),
       text_opening _ _ _ (ap length (c.in_ok-text.ensures.items_if_clones_equal (search rules)) ∙ length-replicate {A = ℕ} 2048 0),
       rw (c.in_ok-text.ensures.items_if_clones_equal (search rules)) (end_of_zeros 2048),
-      rw (c.in_ok-text.ensures.items_if_clones_equal (search rules), c.in_ok-decoded.ensures.items_if_clones_equal (search rules)) (zeros_decoded c.decoded_of.result c.decoded_of.ensures),
+      rw (c.in_ok-text.ensures.items_if_clones_equal (search rules), c.in_ok-decoded.ensures.items_if_clones_equal (search rules)) (zeros_decoded c.entry_of.result c.entry_of.ensures),
     )
 
 pub returns : goal.returns

@@ -2,7 +2,7 @@ use Rattle.std.proofs.Common.{◌≡◌, length}
 use Rattle.driver_isa.specs.Steps.{cpu_of}
 use Rattle.driver_isa.specs.Turns.{machine_of}
 use Rattle.machine_defs.specs.Burst.{strikes_at}
-use Rattle.driver_isa.proofs.burst.strike_front.Given as goal
+use Rattle.driver_isa.proofs.faults.strike_front.Given as goal
 
 abbrev pub invariant-loop-rest : goal.invariant-loop-rest
 invariant-loop-rest g l =

@@ -316,9 +316,9 @@ def instructions() -> list[Row]:
     """The instructions of the driver machine in the order of their numbers, each with its operands and what it does."""
     found = []
     for equation in equations(MNEMONICS, "instruction_row"):
-        shape = r'^(sets|row) \(codes "(\w+)"\) (0x[0-9a-f]+) form\.(\w+) '
+        shape = r'^(sets|changes|reads|row) \(codes "(\w+)"\) (0x[0-9a-f]+) form\.(\w+) '
         row = matched(shape, equation.body, MNEMONICS, "a row of instruction_row")
-        sets, name, number, operands = row[1] == "sets", row[2], int(row[3], 16), OPERANDS[row[4]]
+        sets, name, number, operands = row[1] in ("sets", "changes"), row[2], int(row[3], 16), OPERANDS[row[4]]
         doing = doings()[last_name(equation.arguments)]
         found.append({"name": name, "number": number, "operands": operands, "sets": sets, **does(doing, operands)})
     order = [last_name(name) for name in re.findall(r"mnemonic\.\w+", body_of(MNEMONICS, "mnemonics"))]

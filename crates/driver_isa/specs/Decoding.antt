@@ -2,6 +2,8 @@ use Rattle.std.specs.Prelude.{ℕ, Option, None, Some}
 use Rattle.driver_isa.specs.declared.instructions.Decoded.{Decoded}
 use Rattle.driver_isa.specs.declared.instructions.Op.{Op}
 use Rattle.driver_isa.specs.declared.instructions.Op.TheVariants as op
+use Rattle.driver_isa.specs.declared.turn.Rest.{Rest}
+use Rattle.driver_isa.specs.declared.turn.Rest.TheVariants as rest
 use Rattle.nook_data.specs.declared.machine.Instr.{Instr}
 use Rattle.nook_data.specs.declared.machine.Instr.TheVariants as instr
 
@@ -36,3 +38,16 @@ op_instr op.Fault a b imm = Some instr.Fault
 -- the instruction of a decoded word, if it is one
 abbrev pub instr_of : Decoded → Option Instr
 instr_of d = op_instr d.op d.a d.b d.imm
+
+-- the instruction with these fields of which this is left to do, if it is one
+abbrev pub rest_instr : Rest → ℕ → ℕ → ℕ → Option Instr
+rest_instr rest.Nothing a b imm = None
+rest_instr rest.Jump a b imm = Some (instr.Jr a)
+rest_instr rest.Load a b imm = Some (instr.Ld a b imm)
+rest_instr rest.Store a b imm = Some (instr.St a b imm)
+rest_instr rest.Input a b imm = Some (instr.In a imm)
+rest_instr rest.Output a b imm = Some (instr.Out a imm)
+rest_instr rest.Call a b imm = Some (instr.Kcall imm)
+rest_instr rest.Reply a b imm = Some (instr.Ret a)
+rest_instr rest.Explicit a b imm = Some instr.Fault
+rest_instr rest.NoInstruction a b imm = None

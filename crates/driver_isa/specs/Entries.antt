@@ -50,16 +50,3 @@ executed_entry entries m (Some i) = executed entries m i
 abbrev pub is_done : Rest → Bool
 is_done rest.Nothing = true
 is_done _ = false
-
--- the instruction with these fields of which this is left to do, if it is one
-abbrev pub rest_instr : Rest → ℕ → ℕ → ℕ → Option Instr
-rest_instr rest.Nothing a b imm = None
-rest_instr rest.Jump a b imm = Some (instr.Jr a)
-rest_instr rest.Load a b imm = Some (instr.Ld a b imm)
-rest_instr rest.Store a b imm = Some (instr.St a b imm)
-rest_instr rest.Input a b imm = Some (instr.In a imm)
-rest_instr rest.Output a b imm = Some (instr.Out a imm)
-rest_instr rest.Call a b imm = Some (instr.Kcall imm)
-rest_instr rest.Reply a b imm = Some (instr.Ret a)
-rest_instr rest.Explicit a b imm = Some instr.Fault
-rest_instr rest.NoInstruction a b imm = None

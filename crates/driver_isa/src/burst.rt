@@ -1,8 +1,8 @@
 //! Bursts: instructions up to a crossing, with the faults that strike between them.
 
 ghost use Rattle.std.specs.Prelude.{◌≡◌, ◌<◌, ◌≤◌, ◌+◌, ◌-◌, ℕ, List, None, false, length, [], true};
-ghost use Rattle.driver_isa.specs.Decoding.{instr_of};
-ghost use Rattle.driver_isa.specs.Entries.{IsEntryAt, is_done, rest_instr};
+ghost use Rattle.driver_isa.specs.Decoding.{instr_of, rest_instr};
+ghost use Rattle.driver_isa.specs.Entries.{IsEntryAt, is_done};
 ghost use Rattle.driver_isa.specs.Runs.{is_due, past_run};
 ghost use Rattle.driver_isa.specs.Steps.{cpu_of};
 ghost use Rattle.driver_isa.specs.Turns.{machine_of};

@@ -1,8 +1,8 @@
 //! One machine instruction: the word at the counter is fetched and executed.
 
 ghost use Rattle.std.specs.Prelude.{◌≡◌, ℕ, ◌+◌, ◌*◌, ◌%◌, ◌^◌, ◌<◌, ◌≤◌, IfSome, None, Some, false, true, length, slice_index, slice_set, if◌then◌else◌};
-ghost use Rattle.driver_isa.specs.Decoding.{instr_of};
-ghost use Rattle.driver_isa.specs.Entries.{executed_entry, is_done, rest_instr, stays_in_text};
+ghost use Rattle.driver_isa.specs.Decoding.{instr_of, rest_instr};
+ghost use Rattle.driver_isa.specs.Entries.{executed_entry, is_done, stays_in_text};
 ghost use Rattle.driver_isa.specs.Fields.{has_registers};
 ghost use Rattle.driver_isa.specs.Steps.{cpu_of, crossing_of, is_quiet, next_of};
 ghost use Rattle.driver_isa.specs.Turns.{IsExecuted, machine_of, quiet};

@@ -1,5 +1,5 @@
 -- An instruction that does not use a register does the same if that register is set to another word.
-use Rattle.std.proofs.Common.{◌≡◌, ℕ, true, false, Option, Some, None, sym, ap, ◌∙◌, subst}
+use Rattle.std.proofs.Common.{◌≡◌, ℕ, true, false, List, Option, Some, None, sym, ap, ◌∙◌, subst}
 use Rattle.nook_data.specs.Types.{Entry, Instr}
 use Rattle.machine_defs.proofs.Instructions.{executed_over, executed_same}
 use Rattle.machine_defs.proofs.MachineCases.{past_decode, past_fetch}

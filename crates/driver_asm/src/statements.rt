@@ -173,7 +173,7 @@ fn entry_statement(
 }
 
 /// One of the five directives and its operands.
-#[tactic(auto, unfolding(asm_defs::specs::AsmLines::directive_statement, crate::specs::Directives::directive_named),)]
+#[tactic(auto, unfolding(asm_defs::specs::AsmLines::directive_statement, crate::specs::Directives::directive_named))]
 fn directive_statement(
     labels: &LabelTable,
     class: Option<Class>,

@@ -41,7 +41,8 @@ fn check_arguments(
     class: Class,
     tracker: &Tracker,
 ) -> Result<Service, u32>
-    ensures checked { numbered number result ≡ checked number first second class tracker.now.entries }
+    ensures checked { numbered number result
+        ≡ checked number first second class tracker.now.entries }
     ensures can { IfOk result (λ service. can_serve service ≡ true) }
 {
     match service_named(number) {

@@ -1,6 +1,6 @@
 //! The index of the open calls' claims.
 
-ghost use Rattle.std.specs.Prelude.{◌≡◌, ◌<◌, ◌++◌, ◌∷◌, [], List, Some, OnOk, OnErr};
+ghost use Rattle.std.specs.Prelude.{◌≡◌, ◌<◌, ◌++◌, ◌∷◌, [], Decides, List, Some, OnOk, OnErr};
 ghost use Rattle.claim_index.specs.Claims.{AreBelow, AreRising, HasBlocks, blocker_of, claim_by, claims_of, conflict};
 ghost use Rattle.claim_index.specs.Claims.{first_blocking, first_that, is_oldest, without_call};
 ghost use Rattle.claim_index.specs.Indexed.{number_before};
@@ -47,6 +47,13 @@ impl ClaimIndex {
             claimants: Claimants::new(alloc),
             alloc,
         }
+    }
+
+    /// Whether no call is open.
+    pub fn is_empty(&self) -> bool
+        ensures { Decides result (self.now ≡ []) }
+    {
+        self.open.is_empty()
     }
 
     /// Adds the claim of a new call, whose number is above 0 and above all others. It allocates its memory first: after

@@ -81,15 +81,16 @@ impl Drop for Domain {
 }
 
 impl Domain {
-    /// The domain of a part before its driver is loaded. The image has at most 2,048 initial words.
+    /// The domain of a part before its driver is loaded, in the memory of pages that another part left, or in new
+    /// memory if there are none. The image has at most 2,048 initial words.
     #[tactic(auto, unfolding(part_defs::specs::Domain::opening_domain), using(crate::proofs::Opening::lent_opening, crate::proofs::Opening::opening_class))]
-    pub fn new(alloc: Global, spec: &PartSpec) -> Result<Domain, NoMemory>
+    pub fn over(alloc: Global, spec: &PartSpec, left: Option<PageMap>) -> Result<Domain, NoMemory>
         requires { length spec.now.image.initial ≤ DATA_WORDS }
         ensures { IfOk result (λ made. made ≡ opening_view spec.now) }
     {
         let starts = spec.image.entries.copy(alloc)?;
         let device = device_of(alloc, spec)?;
-        let pages = opening_pages(alloc, spec.class)?;
+        let pages = opening_pages(alloc, spec.class, left)?;
         let heap_start = DATA_START + spec.image.initial.len() as u32;
         Ok(Domain {
             class: spec.class,
@@ -99,6 +100,19 @@ impl Domain {
             device,
             contexts: [None; CONTEXTS],
         })
+    }
+
+    /// The memory of the pages, for another domain. The rest is dropped.
+    pub fn into_pages(self) -> PageMap {
+        let Domain {
+            class: _,
+            starts: _,
+            pages,
+            tracker: _,
+            device: _,
+            contexts: _,
+        } = self;
+        pages
     }
 
     /// Registers r1 and r2 of a context that is Inside, 0 of a free one. The context is at most 16.
@@ -225,14 +239,17 @@ fn device_of(alloc: Global, spec: &PartSpec) -> Result<Device, NoMemory>
     }
 }
 
-/// The pages of a new domain: all words 0 except kernel object 0, which has the class's defaults, and the
-/// first word of objects 1 to 12, which is the object's number.
+/// The pages of a new domain, in the memory of those that were left, if any: all words 0 except kernel object 0, which
+/// has the class's defaults, and the first word of objects 1 to 12, which is the object's number.
 #[tactic(auto, using(crate::proofs::Opening::opening_words))]
-fn opening_pages(alloc: Global, class: Class) -> Result<PageMap, NoMemory>
+fn opening_pages(alloc: Global, class: Class, left: Option<PageMap>) -> Result<PageMap, NoMemory>
     ensures words { IfOk result (λ made. made.words ≡ opening_memory (defaults_of class)) }
     ensures lent { IfOk result (λ made. made.lent ≡ none_lent) }
 {
-    let mut pages = PageMap::new(alloc)?;
+    let mut pages = match left {
+        Some(left) => left.renewed(),
+        None => PageMap::new(alloc)?,
+    };
     pages.put_words(BUFFERS_END, &defaults_of(class), OBJECT_WORDS);
     Ok(pages)
 }

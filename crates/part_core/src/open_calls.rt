@@ -1,6 +1,6 @@
 //! The shadow's log, with an index of what its open calls claim.
 
-ghost use Rattle.std.specs.Prelude.{◌≡◌, ◌+◌, ◌<◌, ◌≤◌, Some, option_map, IfSome, IfOk, OnOk, OnErr};
+ghost use Rattle.std.specs.Prelude.{[], ◌≡◌, ◌+◌, ◌<◌, ◌≤◌, Some, option_map, IfSome, IfOk, OnOk, OnErr};
 ghost use Rattle.claim_index.specs.Claims.{HasBlocks, blocker_of, claimed_by};
 ghost use Rattle.part_defs.specs.Log.{after_answering, call_of_thread, after_entering, gone_answers, held_by_shadow};
 ghost use Rattle.part_defs.specs.Log.{no_call_open, with_answered_call, open_call, opening_log, stop_answers};
@@ -39,14 +39,21 @@ impl Model for OpenCalls {
 }
 
 impl OpenCalls {
-    /// A log without calls.
-    pub fn new(alloc: Global, defaults: [Word; 4]) -> OpenCalls
+    /// A log without calls, with an index without claims.
+    pub fn over(alloc: Global, defaults: [Word; 4], claims: ClaimIndex) -> OpenCalls
+        requires { claims ≡ [] }
         ensures { result ≡ opening_log defaults }
     {
         OpenCalls {
             log: ShadowLog::new(alloc, defaults),
-            claims: ClaimIndex::new(alloc),
+            claims,
         }
+    }
+
+    /// The index of claims, for another part. The log is dropped.
+    pub fn into_claims(self) -> ClaimIndex {
+        let OpenCalls { log: _, claims } = self;
+        claims
     }
 
     /// Adds a call that stays open. Its claim is added before the call: after `NoMemory` nothing is changed.

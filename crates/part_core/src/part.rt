@@ -1,11 +1,11 @@
 //! A part with its journal: one atomic step adds one event.
 
-ghost use Rattle.std.specs.Prelude.{◌≡◌, ◌<◌, ◌≤◌, ◌^◌, is_some, true, [], IsSome, IfNone, IfSome, IfOk};
+ghost use Rattle.std.specs.Prelude.{◌≡◌, ◌<◌, ◌≤◌, ◌^◌, is_some, length, true, [], IsSome, IfNone, IfSome, IfOk, OnErr, OnOk};
 ghost use Rattle.machine_defs.specs.Devices.{medium_of};
 ghost use Rattle.machine_defs.specs.Pages.{object_words};
 ghost use Rattle.part_defs.specs.Log.{call_of_thread, open_call};
 ghost use Rattle.part_defs.specs.Views.CallLogs.{answered_at, blocked_by};
-ghost use Rattle.part_defs.specs.Runs.{IsRun, next_any, next_for, next_recovery, opening_run, state_of};
+ghost use Rattle.part_defs.specs.Runs.{IsRun, next_any, next_for, next_recovery, opening_run, run_after, state_of};
 ghost use Rattle.part_defs.specs.Steps.{can_arrive, can_invoke, enabled};
 ghost use Rattle.nook_data.specs.Valid.{IsValidPart};
 ghost use Rattle.part_core.specs.Answering.{call_number};
@@ -15,10 +15,11 @@ ghost use Rattle.part_laws.specs.Recovery.{HasFacts, IsKeptRun};
 
 mod packed;
 
+use crate::left_rooms::LeftRooms;
 use crate::state::State;
 use domain_call::Domain;
 use fault_script::FaultScript;
-use nook_data::journal::{Journal, SpareRooms};
+use nook_data::journal::Journal;
 use nook_data::limits::BLOCK_WORDS;
 use nook_data::lists::{TryCopy, Word, Words};
 use nook_data::memory::{NoMemory, Room};
@@ -82,16 +83,16 @@ impl Part {
         requires { IsValidPart spec }
         ensures { IfOk result (λ part. part ≡ opening_run spec) }
     {
-        Part::over(alloc, spec, SpareRooms::new(alloc))
+        Part::over(alloc, spec, &mut LeftRooms::none(alloc))
     }
 
-    /// Like `new`, with the memory for acts that another part left.
-    pub fn over(alloc: Global, spec: PartSpec, spare: SpareRooms) -> Result<Part, NoMemory>
+    /// Like `new`, in the memory for acts, crossings, pages and claims that other parts left.
+    pub fn over(alloc: Global, spec: PartSpec, left: &mut LeftRooms) -> Result<Part, NoMemory>
         requires { IsValidPart spec }
         ensures { IfOk result (λ part. part ≡ opening_run spec) }
     {
         let script = FaultScript::new(spec.faults.copy(alloc)?)?;
-        let state = Box::new(alloc, State::new(alloc, spec, spare)?)?;
+        let state = Box::new(alloc, State::over(alloc, spec, left)?)?;
         Ok(Part {
             state,
             script,
@@ -128,8 +129,21 @@ impl Part {
         if !self.state.enabled(&step) {
             return Err(StepRefused::NotEnabled);
         }
+        match self.take(step) {
+            Ok(done) => Ok(done),
+            Err(NoMemory) => Err(StepRefused::NoMemory),
+        }
+    }
+
+    /// Takes one step that may be taken, which adds one event to the journal. After `NoMemory` the part is unchanged.
+    pub fn take(&mut self, step: Step) -> Result<StepDone, NoMemory>
+        requires { enabled self.old.state step ≡ true }
+        ensures ok { OnOk result (self.new ≡ run_after self.old step) }
+        ensures number { IfOk result (λ done. done.number ≡ length self.new.journal) }
+        ensures err { OnErr result (self.new ≡ self.old) }
+    {
         if self.journal.reserve().is_err() {
-            return Err(StepRefused::NoMemory);
+            return Err(NoMemory);
         }
         match self.state.step(step, &self.script) {
             Ok(event) => {
@@ -138,7 +152,7 @@ impl Part {
                     number: self.journal.len() as u64,
                 })
             }
-            Err(_) => Err(StepRefused::NoMemory),
+            Err(_) => Err(NoMemory),
         }
     }
 
@@ -182,17 +196,19 @@ impl Part {
         journal
     }
 
-    /// The journal, as from `into_journal`, and the memory for acts, for another part.
-    pub fn into_journal_and_spare(self) -> (Journal, SpareRooms)
-        ensures journal { result.0.list ≡ self.journal }
-        ensures run { IsRun self.state.spec result.0.list }
+    /// The journal, as from `into_journal`. The part leaves its memory for acts, crossings, pages and
+    /// claims.
+    pub fn into_journal_leaving(self, left: &mut LeftRooms) -> Journal
+        ensures journal { result.list ≡ self.journal }
+        ensures run { IsRun self.state.spec result.list }
     {
         let Part {
             state,
             script: _,
             journal,
         } = self;
-        (journal, Box::into_inner(state).into_spare())
+        Box::into_inner(state).leave(left);
+        journal
     }
 
     /// The driver's domain as it is now.

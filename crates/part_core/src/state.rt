@@ -8,6 +8,7 @@ ghost use Rattle.part_core.specs.Turning.{IsStepOf};
 
 mod packed;
 
+use crate::left_rooms::LeftRooms;
 use crate::open_calls::OpenCalls;
 use crate::rooms::Rooms;
 use class_table::defaults_of;
@@ -79,15 +80,15 @@ impl Drop for State {
 }
 
 impl State {
-    /// A part at the start of its boot, with the memory for acts that another part left.
+    /// A part at the start of its boot, in memory that other parts left.
     #[tactic(auto, unfolding(part_defs::specs::Steps::opening))]
-    pub fn new(alloc: Global, spec: PartSpec, spare: SpareRooms) -> Result<State, NoMemory>
+    pub fn over(alloc: Global, spec: PartSpec, left: &mut LeftRooms) -> Result<State, NoMemory>
         requires { IsValidPart spec }
         ensures { IfOk result (λ state. state ≡ opening spec) }
     {
-        let domain = Domain::new(alloc, &spec)?;
+        let domain = Domain::over(alloc, &spec, left.pop_pages())?;
         let queue = RxQueue::new(alloc)?;
-        let log = OpenCalls::new(alloc, defaults_of(spec.class));
+        let log = OpenCalls::over(alloc, defaults_of(spec.class), left.take_claims(alloc));
         Ok(State {
             spec,
             domain,
@@ -97,17 +98,31 @@ impl State {
             failures: 0,
             bursts: 0,
             arrived: 0,
-            spare,
-            rooms: Rooms::none(),
+            spare: left.take(alloc),
+            rooms: left.take_rooms(),
             alloc,
         })
     }
-}
 
-impl State {
-    /// The memory for acts. The rest is dropped.
-    pub fn into_spare(mut self) -> SpareRooms {
-        std::mem::replace(&mut self.spare, SpareRooms::new(self.alloc))
+    /// Leaves the memory for acts, crossings, pages and claims. The rest is dropped.
+    pub fn leave(self, left: &mut LeftRooms) {
+        let State {
+            spec: _,
+            domain,
+            log,
+            queue: _,
+            mode: _,
+            failures: _,
+            bursts: _,
+            arrived: _,
+            spare,
+            rooms,
+            alloc: _,
+        } = self;
+        left.give(spare);
+        left.give_rooms(rooms);
+        left.give_pages(domain.into_pages());
+        left.give_claims(log.into_claims());
     }
 
     /// Takes the step. The step may be taken, and what holds of every part holds. If memory runs out, nothing is

@@ -59,7 +59,7 @@ impl<'a> SimulatedPart<'a> {
         requires { IsValidPart spec.now }
         ensures { IfOk result (λ seat. seat ≡ opening_part spec.now) }
     {
-        let part = Part::over(alloc, spec.copy(alloc)?, left.take(alloc))?;
+        let part = Part::over(alloc, spec.copy(alloc)?, left)?;
         let coming = spec.arrivals.as_slice();
         let has_recovery = part.next_recovery().is_some();
         let has_arrival = may_arrive(&part, coming);
@@ -144,9 +144,7 @@ impl<'a> SimulatedPart<'a> {
         ensures err { OnErr result (self.new ≡ self.old) }
     {
         let coming = frames_after(&step, self.coming);
-        if self.part.step(step).is_err() {
-            return Err(NoMemory);
-        }
+        self.part.take(step)?;
         self.coming = coming;
         self.has_recovery = self.part.next_recovery().is_some();
         self.has_arrival = may_arrive(&self.part, coming);
@@ -209,9 +207,7 @@ impl<'a> SimulatedPart<'a> {
     pub fn into_journal(self, left: &mut LeftRooms) -> Journal
         ensures { result.list ≡ self.entry.run.journal }
     {
-        let (journal, spare) = self.part.into_journal_and_spare();
-        left.give(spare);
-        journal
+        self.part.into_journal_leaving(left)
     }
 }
 

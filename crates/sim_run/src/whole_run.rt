@@ -46,7 +46,7 @@ pub fn simulate<L: Listener>(
     simulate_over(alloc, scenario, taps, &mut LeftRooms::none(alloc))
 }
 
-/// Like `simulate`, but reuses the memory for acts that the parts of earlier runs left. This run's parts leave theirs.
+/// Like `simulate`, but reuses the memory that the parts of earlier runs left. This run's parts leave theirs.
 pub fn simulate_over<L: Listener>(
     alloc: Global,
     scenario: &Scenario,

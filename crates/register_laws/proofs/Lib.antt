@@ -1,2 +1,4 @@
 pub mod Setting
 pub mod Bursts
+pub mod AlikeSteps
+pub mod AlikeRuns

@@ -23,12 +23,12 @@ use Rattle.run_defs.specs.Simulation.{Choice, RunningPart, Simulation, choices_o
 
 -- ---- another last fault
 
-last_dropped : (xs : List Fault) (f : Fault) → without_last (xs ++ f ∷ []) ≡ xs
+pub last_dropped : (xs : List Fault) (f : Fault) → without_last (xs ++ f ∷ []) ≡ xs
 last_dropped [] f = refl
 last_dropped (x ∷ []) f = refl
 last_dropped (x ∷ y ∷ xs) f = ap (λ (zs : List Fault). x ∷ zs) (last_dropped (y ∷ xs) f)
 
-swapped_here : (index : ℕ) (g : Fault) (faults : List Fault) → swapped_at index g index faults ≡ without_last faults ++ g ∷ []
+pub swapped_here : (index : ℕ) (g : Fault) (faults : List Fault) → swapped_at index g index faults ≡ without_last faults ++ g ∷ []
 swapped_here zero g faults = refl
 swapped_here (suc index) g faults = swapped_here index g faults
 

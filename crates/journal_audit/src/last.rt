@@ -25,7 +25,7 @@ use nook_data::memory::NoMemory;
 use nook_data::scenario::ThreadSpec;
 use nook_io::listeners::TapTotals;
 use nook_io::outside::Sink;
-use report_text::{WriteStop, write_ending, write_threads};
+use report_text::{WriteStop, write_ending_text, write_threads};
 use run_results::ReportStatus;
 use std::alloc::Global;
 use std::marker::Model;
@@ -75,7 +75,7 @@ fn write_last<K: Sink>(
         ++ ending_text taps.now (status_number status)) }
 {
     write_threads(alloc, sink, 0, threads, answers)?;
-    write_ending(alloc, sink, taps.as_slice(), status.number())
+    write_ending_text(alloc, sink, taps.as_slice(), status.number())
 }
 
 /// Each thread's answers in the order of its script.

@@ -516,7 +516,7 @@ fn write_parts<K: Sink>(
 }
 
 /// Writes the lines after the threads: the listeners, and the status.
-pub fn write_ending<K: Sink>(
+pub fn write_ending_text<K: Sink>(
     alloc: Global,
     sink: &mut K,
     taps: &[(u64, bool)],
@@ -595,7 +595,7 @@ fn write_mirror_rows<K: Sink>(
 {
     write_all_parts(alloc, scenario, report, sink)?;
     write_mirror_threads(alloc, sink, scenario.threads.as_slice(), answers)?;
-    write_ending(alloc, sink, report.run.taps.as_slice(), status)
+    write_ending_text(alloc, sink, report.run.taps.as_slice(), status)
 }
 
 /// Writes the rows of a report.
@@ -616,7 +616,7 @@ fn write_rows<K: Sink>(
         scenario.threads.as_slice(),
         report.run.answers.as_slice(),
     )?;
-    write_ending(alloc, sink, report.run.taps.as_slice(), report.status)
+    write_ending_text(alloc, sink, report.run.taps.as_slice(), report.status)
 }
 
 /// Writes the lines of all parts.

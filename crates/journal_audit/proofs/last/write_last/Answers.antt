@@ -10,4 +10,4 @@ returns-in_err-write_threads g c =
 pub returns : goal.returns
 returns g c =
     rw (← c.as_slice.ensures, ← c.number.ensures)
-    (both c.in_ok-write_threads.ensures c.write_ending.ensures)
+    (both c.in_ok-write_threads.ensures c.write_ending_text.ensures)

@@ -16,4 +16,4 @@ returns-in_err-write_threads g c =
 pub returns : goal.returns
 returns g c =
     rw (← c.as_slice.ensures, ← c.as_slice-2.ensures, ← c.as_slice-3.ensures)
-    (both c.in_ok-write_all_parts.ensures (both c.in_ok-write_threads.ensures c.write_ending.ensures))
+    (both c.in_ok-write_all_parts.ensures (both c.in_ok-write_threads.ensures c.write_ending_text.ensures))

@@ -1,6 +1,6 @@
 use Rattle.std.proofs.lemmas.Result.{err_from_is_err_and}
 use Rattle.report_text.proofs.WroteLemmas.{both, cut}
-use Rattle.report_text.proofs.whole_text.write_ending.Goals as goal
+use Rattle.report_text.proofs.whole_text.write_ending_text.Goals as goal
 
 pub returns-in_err-write_taps : goal.returns-in_err-write_taps
 returns-in_err-write_taps g c =

@@ -15,16 +15,16 @@ use Rattle.register_laws.specs.Uses.{instr_at, instrs_from, reg_at}
 use Rattle.register_laws.proofs.Setting.{turn_over, turn_same}
 
 -- the burst's instructions, by what one of them leaves
-abbrev instrs_after : ℕ → List Entry → Machine → Going → List (Option Instr)
+abbrev pub instrs_after : ℕ → List Entry → Machine → Going → List (Option Instr)
 instrs_after left entries m (on m' rest acts) = instr_at m ∷ instrs_from left entries m' acts
 instrs_after left entries m (over b) = []
 
-instrs_is : (left : ℕ) (entries : List Entry) (m : Machine) (acts : List Act)
+pub instrs_is : (left : ℕ) (entries : List Entry) (m : Machine) (acts : List Act)
     → instrs_from (suc left) entries m acts ≡ instrs_after left entries m (one_turn left entries [] m acts)
 unfolding instrs_from
 instrs_is left entries m acts = refl
 
-no_instrs : (entries : List Entry) (m : Machine) (acts : List Act) → instrs_from zero entries m acts ≡ []
+pub no_instrs : (entries : List Entry) (m : Machine) (acts : List Act) → instrs_from zero entries m acts ≡ []
 unfolding instrs_from
 no_instrs entries m acts = refl
 

@@ -4,4 +4,4 @@ pub mod AlikeSteps
 pub mod AlikeRuns
 pub mod AlikeWhole
 pub mod Rows
-pub mod Members
+pub mod MemberRows

@@ -21,6 +21,7 @@ module _ (k v : ℕ) where
       by_decode : (d : Option Instr) → d ≡ Some i → past_decode entries (setting k v m) d ≡ setting_after k v (past_decode entries m d)
       by_decode d e = ap (past_decode entries (setting k v m)) e ∙ executed_same k v entries m i n o
           ∙ ap (λ (x : Option Instr). setting_after k v (past_decode entries m x)) (sym e)
+
       by_fetch : (o : Option ℕ) → instr_in o ≡ Some i → past_fetch entries (setting k v m) o ≡ setting_after k v (past_fetch entries m o)
       by_fetch None e = absurd cc
       by_fetch (Some word) e = by_decode (decode_of word) e
@@ -36,6 +37,7 @@ module _ (k v : ℕ) where
       by_decode d e c = ap (past_decode entries (setting k v m)) e
           ∙ executed_over k v entries m i n o (subst (λ (x : Option Instr). (past_decode entries m x).crossing ≡ None) e c)
           ∙ ap (past_decode entries m) (sym e)
+
       by_fetch : (o : Option ℕ) → instr_in o ≡ Some i → (past_fetch entries m o).crossing ≡ None
           → past_fetch entries (setting k v m) o ≡ past_fetch entries m o
       by_fetch None e c = absurd cc

@@ -49,7 +49,7 @@ set_set [] k x y = refl
 set_set (z ∷ xs) zero x y = refl
 set_set (z ∷ xs) (suc k) x y = ap (λ (ys : List _). z ∷ ys) (set_set xs k x y)
 
-journal_at : (parts : List RunningPart) (index : ℕ) (seat : RunningPart) → slice_get parts index ≡ Some seat
+pub journal_at : (parts : List RunningPart) (index : ℕ) (seat : RunningPart) → slice_get parts index ≡ Some seat
     → slice_get (map journal_of parts) index ≡ Some seat.run.journal
 journal_at [] index seat h = none_is_some h
 journal_at (x ∷ parts) zero seat h = ap (λ (y : RunningPart). Some y.run.journal) (same_inside h)

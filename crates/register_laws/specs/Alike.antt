@@ -15,7 +15,7 @@ abbrev pub with_one : Option Fault → List Fault → List Fault
 with_one None faults = faults
 with_one (Some g) faults = put_after g faults
 
--- if a step is the burst of a fault, it is the same with another fault in its stead, or without one
+-- if a step is the burst of a fault, it is the same with another fault instead, or without one
 abbrev pub IsAlike : Fault → Option Fault → PartState → Step → Type 0
 IsAlike f o p (step.Burst context) = p.bursts + 1 ≡ f.burst
     → domain_burst context (put_after f (faults_of_burst (p.bursts + 1) p.spec.faults)) p.domain

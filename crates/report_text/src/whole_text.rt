@@ -529,11 +529,7 @@ pub fn write_ending_text<K: Sink>(
 }
 
 /// Writes the listeners; the first has number 0.
-fn write_taps<K: Sink>(
-    alloc: Global,
-    sink: &mut K,
-    taps: &[(u64, bool)],
-) -> Result<(), WriteStop>
+fn write_taps<K: Sink>(alloc: Global, sink: &mut K, taps: &[(u64, bool)]) -> Result<(), WriteStop>
     ensures { Wrote (change K.held K.count sink.old sink.new) result (taps_text 0 taps.now) }
 {
     let mut line = Line::new(alloc);

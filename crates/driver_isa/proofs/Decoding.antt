@@ -1,5 +1,5 @@
 -- The registers of a decoded word, and the word of an instruction.
-use Rattle.std.proofs.Common.{◌≡◌, ◌≤◌, ◌<◌, ◌^◌, ◌&&◌, ℕ, nat_le, true, List, Option, Some, None, IfSome, refl, sym, ap, subst, ◌∙◌, arith}
+use Rattle.std.proofs.Common.{◌≡◌, ◌≤◌, ◌<◌, ◌^◌, ◌&&◌, ℕ, nat_le, true, Option, Some, None, IfSome, refl, sym, ap, subst, ◌∙◌, arith}
 use Rattle.std.specs.Option.{option_map}
 use Rattle.std.proofs.lemmas.Bool.{and_parts, leb-true}
 use Rattle.std.specs.List.{find}
@@ -12,7 +12,6 @@ use Rattle.nook_data.specs.declared.machine.Form.{Form}
 use Rattle.nook_data.specs.declared.machine.Form.TheVariants as form
 use Rattle.nook_data.specs.declared.machine.Instr.{Instr}
 use Rattle.nook_data.specs.declared.machine.Mnemonic.{Mnemonic}
-use Rattle.nook_data.specs.declared.machine.Mnemonic.TheVariants as mnemonic
 
 are_low : (m : Mnemonic) (x : Form) (a b imm : ℕ) → a ≤ 15 → b ≤ 15 → (nat_le (fields_in m x a b imm).a 15 && nat_le (fields_in m x a b imm).b 15) ≡ true
 are_low m form.Bare a b imm low small = refl

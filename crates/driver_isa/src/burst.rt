@@ -11,7 +11,7 @@ ghost use Rattle.nook_data.specs.declared.machine.Act.{Act};
 
 use crate::bus::Bus;
 use crate::faults::strike_due;
-use crate::instructions::Decoded;
+use crate::instructions::{Decoded, same};
 use crate::turn::{InstructionResult, Rest, compute, finish, is_done, take_turn};
 use nook_data::journal::ActLog;
 use nook_data::limits::{MOST_ACTS, MOST_INSTRUCTIONS};
@@ -164,7 +164,7 @@ fn run_until<B: Bus>(
     ensures entries { B.entries bus.new ≡ B.entries bus.old }
     ensures held { B.held bus.new ≡ B.held bus.old }
 {
-    let mut run = run_some(first, before, stop, registers, bus, acts);
+    let mut run = run_to(before, first, None);
     while run.end.is_none() && run.count < stop {
         run = run_some(run.counter, run.count, stop, registers, bus, acts);
     }
@@ -253,10 +253,10 @@ fn run_entries<B: Bus>(
         if is_done(halt.rest) {
             return reached;
         }
-        if !finish(halt.rest, halt.entry, registers, bus, acts) {
-            return reached;
-        }
-        at = halt.at + 1;
+        at = match finish(halt.rest, halt.entry, halt.at, registers, bus, acts) {
+            Some(next) => next,
+            None => return reached,
+        };
         left = halt.left - 1;
     }
     Reached {
@@ -295,7 +295,7 @@ fn run_computed<B: Bus>(first: usize, most: u32, registers: &mut [Word; 16], bus
                 at,
                 left,
                 rest: computed.rest,
-                entry: *entry,
+                entry: same(entry),
             };
         }
         at = computed.at;

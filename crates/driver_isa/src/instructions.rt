@@ -341,6 +341,20 @@ pub fn decoded_with(op: Op, a: u8, b: u8, imm: u16) -> Decoded
     }
 }
 
+/// The same word, copied field by field.
+// Copied as a whole, it would be one number, from which each field is then computed.
+pub(crate) fn same(decoded: &Decoded) -> Decoded
+    ensures { result ≡ decoded.now }
+{
+    Decoded {
+        op: decoded.op,
+        a: decoded.a,
+        b: decoded.b,
+        imm: decoded.imm,
+        unused: decoded.unused,
+    }
+}
+
 /// The instruction, if it is one.
 pub fn instr_of(decoded: &Decoded) -> Option<Instr>
     ensures { result ≡ instr_of decoded.now }

@@ -1,6 +1,6 @@
 //! One machine instruction: the word at the counter is fetched and executed.
 
-ghost use Rattle.std.specs.Prelude.{◌≡◌, ℕ, ◌+◌, ◌*◌, ◌%◌, ◌^◌, ◌<◌, ◌≤◌, IfSome, None, Some, false, true, length, slice_index, slice_set, if◌then◌else◌};
+ghost use Rattle.std.specs.Prelude.{◌≡◌, ℕ, ◌+◌, ◌*◌, ◌%◌, ◌^◌, ◌<◌, ◌≤◌, IfSome, IsNone, None, Some, false, true, length, slice_index, slice_set, if◌then◌else◌};
 ghost use Rattle.driver_isa.specs.Decoding.{instr_of, rest_instr};
 ghost use Rattle.driver_isa.specs.Entries.{executed_entry, is_done, stays_in_text};
 ghost use Rattle.driver_isa.specs.Fields.{has_registers};
@@ -63,7 +63,7 @@ pub fn turn<B: Bus>(cpu: &mut Cpu, bus: &mut B, acts: &mut ActLog) -> Option<Bur
 #[derive(Clone, Copy)]
 pub enum Rest {
     Nothing,
-    /// A jump to an address in a register that is outside the text.
+    /// A jump to an address in a register.
     Jump,
     /// A load from an address outside memory.
     Load,
@@ -217,21 +217,22 @@ pub fn compute<B: Bus>(entry: &Decoded, at: usize, registers: &mut [Word; 16], b
         Op::Jmp => jump(entry.imm),
         Op::Beq => branch(
             register(registers, entry.a) == register(registers, entry.b),
-            entry.imm,
+            entry,
             at,
         ),
         Op::Bne => branch(
             register(registers, entry.a) != register(registers, entry.b),
-            entry.imm,
+            entry,
             at,
         ),
         Op::Blt => branch(
             register(registers, entry.a) < register(registers, entry.b),
-            entry.imm,
+            entry,
             at,
         ),
         Op::Jal => link(registers, entry.a, entry.imm, at),
-        Op::Jr => jump_to(register(registers, entry.a), at),
+        // Left, although it only reads, since a tested target would need a second index in the loop over entries.
+        Op::Jr => leaving(Rest::Jump, at),
         Op::St => leaving(Rest::Store, at),
         Op::In => leaving(Rest::Input, at),
         Op::Out => leaving(Rest::Output, at),
@@ -301,52 +302,83 @@ fn perform<B: Bus>(
     }
 }
 
-/// Does what is left of an instruction, unless it ends the burst or leaves the text; false if it may, with nothing
-/// changed.
+/// Does what is left of an instruction and returns the index of the next entry, unless the instruction ends the burst
+/// or leaves the text; `None` if it may, with nothing changed.
 #[inline(always)]
 pub fn finish<B: Bus>(
     rest: Rest,
     entry: Decoded,
+    at: usize,
     registers: &mut [Word; 16],
     bus: &mut B,
     acts: &mut ActLog,
-) -> bool
+) -> Option<usize>
+    requires at { at ≤ TEXT_WORDS }
     requires fields { IfSome (instr_of entry) (λ i. has_registers i ≡ true) }
     requires some { is_done rest ≡ false }
     requires rest { instr_of entry ≡ rest_instr rest entry.a entry.b entry.imm }
     requires room { length acts.old < MOST_ACTS }
-    ensures done { result ≡ true → (counter : ℕ) → IsExecuted
+    ensures done { IfSome result (λ next. IsExecuted
         (executed_entry (B.entries bus.old)
-        (machine_of (cpu_of counter registers.old) (B.words bus.old) (B.device bus.old))
+        (machine_of (cpu_of at registers.old) (B.words bus.old) (B.device bus.old))
         (instr_of entry))
-        (machine_of (cpu_of (next_counter counter) registers.new)
-        (B.words bus.new) (B.device bus.new))
-        acts.old acts.new None }
-    ensures unchanged { result ≡ false → (counter : ℕ)
-        → machine_of (cpu_of counter registers.new) (B.words bus.new) (B.device bus.new)
-        ≡ machine_of (cpu_of counter registers.old) (B.words bus.old) (B.device bus.old) }
-    ensures acts { result ≡ false → acts.new ≡ acts.old }
+        (machine_of (cpu_of next registers.new) (B.words bus.new) (B.device bus.new))
+        acts.old acts.new None) }
+    ensures inside { IfSome result (λ next. at < TEXT_WORDS → next ≤ TEXT_WORDS) }
+    ensures unchanged { IsNone result
+        → machine_of (cpu_of at registers.new) (B.words bus.new) (B.device bus.new)
+        ≡ machine_of (cpu_of at registers.old) (B.words bus.old) (B.device bus.old) }
+    ensures acts { IsNone result → acts.new ≡ acts.old }
     ensures room { length acts.new < MOST_ACTS }
     ensures entries { B.entries bus.new ≡ B.entries bus.old }
     ensures held { B.held bus.new ≡ B.held bus.old }
 {
     match rest {
-        Rest::Store => bus.write(
-            offset(registers, entry.b, entry.imm),
-            register(registers, entry.a),
-        ),
+        Rest::Jump => jump_to(register(registers, entry.a)),
+        Rest::Store => {
+            let address = offset(registers, entry.b, entry.imm);
+            if bus.write(address, register(registers, entry.a)) {
+                Some(next_index(at))
+            } else {
+                None
+            }
+        }
         Rest::Input => match bus.input(u32::from(entry.imm)) {
             Some(word) => {
                 registers[entry.a as usize] = word;
-                true
+                Some(next_index(at))
             }
-            None => false,
+            None => None,
         },
         Rest::Output => {
-            acts.len() + 1 < MOST_ACTS
-                && bus.output(u32::from(entry.imm), register(registers, entry.a), acts)
+            let has_room = acts.len() + 1 < MOST_ACTS;
+            if has_room && bus.output(u32::from(entry.imm), register(registers, entry.a), acts) {
+                Some(next_index(at))
+            } else {
+                None
+            }
         }
-        _ => false,
+        _ => None,
+    }
+}
+
+/// The index after that of an entry.
+fn next_index(at: usize) -> usize
+    requires { at ≤ TEXT_WORDS }
+    ensures next { result ≡ next_counter at }
+    ensures inside { at < TEXT_WORDS → result ≤ TEXT_WORDS }
+{
+    at + 1
+}
+
+/// A jump's target, if it is in the text.
+fn jump_to(target: Word) -> Option<usize>
+    ensures inside { IfSome result (λ next. (next ≡ target) × (next < TEXT_WORDS)) }
+{
+    if target < TEXT_WORDS {
+        Some(target as usize)
+    } else {
+        None
     }
 }
 
@@ -436,35 +468,23 @@ fn jump(target: u16) -> Computed
     }
 }
 
-/// Leads to a target in a register, if that is in the text.
-fn jump_to(target: Word, at: usize) -> Computed
-    requires { at ≤ TEXT_WORDS }
-    ensures inside { target < TEXT_WORDS → result ≡ record { at = target; rest = Rest.Nothing } }
-    ensures outside { TEXT_WORDS ≤ target → result ≡ record { at = at; rest = Rest.Jump } }
-{
-    if target < TEXT_WORDS {
-        Computed {
-            at: target as usize,
-            rest: Rest::Nothing,
-        }
-    } else {
-        leaving(Rest::Jump, at)
-    }
-}
-
-/// Leads to a target if the comparison holds.
-fn branch(holds: bool, target: u16, at: usize) -> Computed
+/// Leads to an entry's target if the comparison holds.
+// The target is read only if it is needed, so that the machine code is a branch, which the processor can predict.
+fn branch(holds: bool, entry: &Decoded, at: usize) -> Computed
     requires { at ≤ TEXT_WORDS }
     ensures goes { result ≡ record {
-      at = if holds then target else next_counter at;
+      at = if holds then entry.now.imm else next_counter at;
       rest = Rest.Nothing;
     } }
     ensures word { result.at < 2 ^ 32 }
 {
-    let next = if holds { usize::from(target) } else { at + 1 };
-    Computed {
-        at: next,
-        rest: Rest::Nothing,
+    if holds {
+        jump(entry.imm)
+    } else {
+        Computed {
+            at: at + 1,
+            rest: Rest::Nothing,
+        }
     }
 }
 

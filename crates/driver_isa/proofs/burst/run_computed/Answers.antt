@@ -1,12 +1,11 @@
 use Rattle.std.proofs.Common.{◌≡◌, ◌-◌, [], None, true, refl, sym, ◌∙◌, arith}
-use Rattle.driver_isa.specs.Decoding.{instr_of}
-use Rattle.driver_isa.specs.Entries.{IsEntryAt, executed_entry, is_done}
+use Rattle.driver_isa.specs.Entries.{is_done}
 use Rattle.driver_isa.specs.Steps.{cpu_of}
-use Rattle.driver_isa.specs.Turns.{IsExecuted, machine_of}
+use Rattle.driver_isa.specs.Turns.{machine_of}
 use Rattle.driver_isa.proofs.Bursts.{entry_goes_on}
-use Rattle.driver_isa.proofs.Entries.{IsEntry, entry_at, entry_fits, entry_turn}
+use Rattle.driver_isa.proofs.Entries.{entry_at, entry_fits, entry_turn}
 use Rattle.driver_isa.proofs.Turns.{quiet_turn}
-use Rattle.machine_defs.specs.Execution.{Machine, goes}
+use Rattle.machine_defs.specs.Execution.{Machine}
 use Rattle.driver_isa.proofs.burst.run_computed.Goals as goal
 
 pub compute-computed-requires-clause-fields : goal.compute-computed-requires-clause-fields

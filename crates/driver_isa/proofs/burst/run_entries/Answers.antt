@@ -1,4 +1,4 @@
-use Rattle.std.proofs.Common.{◌≡◌, ◌+◌, ◌-◌, ◌%◌, ◌^◌, ℕ, None, true, false, refl, sym, ◌∙◌, arith}
+use Rattle.std.proofs.Common.{◌≡◌, ◌-◌, false, sym, ◌∙◌, arith}
 use Rattle.driver_isa.specs.Entries.{is_done}
 use Rattle.driver_isa.specs.Steps.{cpu_of}
 use Rattle.driver_isa.specs.Turns.{machine_of}
@@ -16,9 +16,8 @@ loop-left-preserved g c =
     let halt = c.run_computed-halt.result in
     let left : is_done halt.rest ≡ false = sym c.is_done.ensures ∙ c.if-is_done.false in
     let m : Machine = machine_of (cpu_of halt.at c.run_computed-halt.new.registers) (g.B.Bus.words c.loop-left.bus) (g.B.Bus.device c.loop-left.bus) in
-    let m' : Machine = machine_of (cpu_of (halt.at + 1) c.finish.new.registers) (g.B.Bus.words c.finish.new.bus) (g.B.Bus.device c.finish.new.bus) in
-    let next : (halt.at + 1) % 2 ^ 32 ≡ halt.at + 1 = omega (arith, c.run_computed-halt.ensures.inside) in
-    let done = rw next at (c.finish.ensures.done c.if-not-finish.false halt.at) in
+    let m' : Machine = machine_of (cpu_of c.in-Some.next c.finish.new.registers) (g.B.Bus.words c.finish.new.bus) (g.B.Bus.device c.finish.new.bus) in
+    let done = c.in-Some.ensures.done in
     let low = (entry_turn (g.B.Bus.entries c.loop-left.bus) m m' _ _ _ c.run_computed-halt.ensures.entry done).inside in
     record {
       went = λ pending quiet. entry_goes_on c.args.stop halt.left _ _ pending m m' _ _ _ _
@@ -28,7 +27,7 @@ loop-left-preserved g c =
           ∙ c.loop-left.invariant.went pending quiet);
       room = c.finish.ensures.room;
       left = omega arith;
-      inside = omega (arith, low);
+      inside = c.in-Some.ensures.inside low;
       entries = c.finish.ensures.entries ∙ c.loop-left.invariant.entries;
       held = c.finish.ensures.held ∙ c.loop-left.invariant.held;
     }
@@ -38,9 +37,3 @@ pub returns-then-is_done-clause-went : goal.returns-then-is_done-clause-went
 returns-then-is_done-clause-went g c pending quiet =
     c.run_computed-halt.ensures.went c.args.stop pending _ (omega arith) c.requires.within c.loop-left.invariant.room (λ k from below. quiet k (omega arith) below)
     ∙ c.loop-left.invariant.went pending quiet
-
-pub returns-then-not-finish-clause-went : goal.returns-then-not-finish-clause-went
-returns-then-not-finish-clause-went g c pending quiet =
-    rw (c.finish.ensures.entries, c.finish.ensures.unchanged c.if-not-finish.true c.run_computed-halt.result.at, c.finish.ensures.acts c.if-not-finish.true)
-    (c.run_computed-halt.ensures.went c.args.stop pending _ (omega arith) c.requires.within c.loop-left.invariant.room (λ k from below. quiet k (omega arith) below)
-    ∙ c.loop-left.invariant.went pending quiet)

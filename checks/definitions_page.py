@@ -108,7 +108,7 @@ CHAPTERS = (
 
 # Files of these crates that hold no definition of the promises: lists of modules, and names that contracts and laws of the
 # crates give to pieces of the definitions.
-APART = {"Lib", "Views", "Making"}
+APART = {"Lib", "Views", "Making", "Registers", "ServiceNames"}
 
 # The crates whose files must each have a chapter.
 CRATES = ("nook_data", "nook_io", "machine_defs", "part_defs", "run_defs", "promise_defs", "headline_laws", "guard_defs", "asm_defs",

@@ -230,7 +230,7 @@ pub fn compute<B: Bus>(entry: &Decoded, at: usize, registers: &mut [Word; 16], b
             entry,
             at,
         ),
-        Op::Jal => link(registers, entry.a, entry.imm, at),
+        Op::Jal => link(registers, entry, at),
         // Left, although it only reads, since a tested target would need a second index in the loop over entries.
         Op::Jr => leaving(Rest::Jump, at),
         Op::St => leaving(Rest::Store, at),
@@ -488,16 +488,16 @@ fn branch(holds: bool, entry: &Decoded, at: usize) -> Computed
     }
 }
 
-/// Leads to a target, and sets a register to the next word's address.
-fn link(registers: &mut [Word; 16], a: u8, target: u16, at: usize) -> Computed
-    requires register { a < 16 }
+/// Leads to an entry's target, and sets a register to the next word's address.
+fn link(registers: &mut [Word; 16], entry: &Decoded, at: usize) -> Computed
+    requires register { entry.now.a < 16 }
     requires at { at ≤ TEXT_WORDS }
-    ensures registers { registers.new ≡ slice_set registers.old a (next_counter at) }
-    ensures goes { result ≡ record { at = target; rest = Rest.Nothing } }
+    ensures registers { registers.new ≡ slice_set registers.old entry.now.a (next_counter at) }
+    ensures goes { result ≡ record { at = entry.now.imm; rest = Rest.Nothing } }
     ensures word { result.at < 2 ^ 32 }
 {
-    registers[a as usize] = at as u32 + 1;
-    jump(target)
+    registers[entry.a as usize] = at as u32 + 1;
+    jump(entry.imm)
 }
 
 /// Loads the word at `address` into a register.

@@ -6,3 +6,4 @@ pub mod Placings
 pub mod PlainTables
 pub mod Struck
 pub mod Tables
+pub mod KnownRows

@@ -4,3 +4,4 @@ pub mod NumberedRows
 pub mod Given
 pub mod Bases
 pub mod Plain
+pub mod Known

@@ -5,6 +5,7 @@
 
 mod base;
 mod every;
+mod known;
 mod laws;
 mod member;
 mod outcome;

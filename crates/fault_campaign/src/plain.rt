@@ -8,7 +8,8 @@ ghost use Rattle.report_defs.specs.Campaigns.{IsTable};
 
 use crate::base::base_of;
 use crate::every::each_alone;
-use crate::running::run_members;
+use crate::known::nothing_known;
+use crate::running::{Seen, run_members};
 use campaign_defs::row::Row;
 use nook_data::campaign::{Campaign, Table};
 use nook_data::lists::{Items, TryCopy};
@@ -35,7 +36,12 @@ pub fn run_campaign<R: Threads + Sync>(
     let plan = plain_plan(alloc, campaign)?;
     let base = base_of(alloc, &plan)?;
     let members = each_alone(alloc, campaign.faults.as_slice())?;
-    let rows = run_members(rt, alloc, &plan, &base.shown, members.as_slice())?;
+    let known = nothing_known(&base.row);
+    let seen = Seen {
+        shown: &base.shown,
+        known: &known,
+    };
+    let rows = run_members(rt, alloc, &plan, seen, members.as_slice())?;
     counts_of(alloc, rows.as_slice())
 }
 

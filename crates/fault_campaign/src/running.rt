@@ -2,11 +2,13 @@
 
 ghost use Rattle.std.specs.Prelude.{All, IfOk};
 ghost use Rattle.campaign_defs.specs.Members.{CanRunMember, CanRunUnder};
+ghost use Rattle.fault_campaign.specs.Known.{IsRight};
 ghost use Rattle.fault_campaign.specs.Members.{IsBaseButStruck};
 ghost use Rattle.fault_campaign.specs.Outcomes.{IsRowOver};
 ghost use Rattle.fault_campaign.specs.NumberedRows.{AreRowsFor, AreSlots, IsRowFor, IsShare, IsSlotOf};
 ghost use Rattle.plan_defs.specs.Plans.{IsValidPlan};
 
+use crate::known::{Known, known_row, needs_run};
 use crate::member::strike;
 use crate::outcome::run_under;
 use crate::placing::{NumberedRow, Share, put_all};
@@ -22,8 +24,16 @@ use std::alloc::{AllocError, Global};
 use std::sync::atomic::{AtomicUsize, Ordering};
 use std::thread::{Threads, map_indices};
 
+/// What the base's run showed, and what is therefore known of the members.
+#[derive(Clone, Copy)]
+pub struct Seen<'a> {
+    pub shown: &'a Shown,
+    pub known: &'a Known<'a>,
+}
+
 /// Runs members, each given by its faults, and returns their rows in the same order. `shown` is what the base's run
-/// showed. The members run concurrently; the rows are the same as with one thread, for any number of processors.
+/// showed. Members whose rows are known are not run. The members run concurrently; the rows are the same as with one
+/// thread, for any number of processors.
 ///
 /// # Errors
 ///
@@ -32,16 +42,17 @@ pub fn run_members<R: Threads + Sync>(
     rt: &R,
     alloc: Global,
     plan: &Plan,
-    shown: &Shown,
+    seen: Seen<'_>,
     members: &[Faults],
 ) -> Result<Rows, NoMemory>
     requires valid { IsValidPlan plan.now }
+    requires right { IsRight plan.now seen.shown.now seen.known.now }
     requires can_run { All (CanRunMember plan.now) members.now }
-    ensures { IfOk result (AreRowsFor plan.now shown.now members.now) }
+    ensures { IfOk result (AreRowsFor plan.now seen.entry.shown.now members.now) }
 {
-    let shares = share_members(rt, alloc, plan, shown, members)?;
+    let shares = share_members(rt, alloc, plan, seen, members)?;
     let slots = put_all(alloc, members.len(), shares.as_slice())?;
-    let rows = fill_rows(alloc, plan, shown, members, slots.as_slice())?;
+    let rows = fill_rows(alloc, plan, seen, members, slots.as_slice())?;
     Ok(Items::from_vec(rows))
 }
 
@@ -51,12 +62,13 @@ fn share_members<R: Threads + Sync>(
     rt: &R,
     alloc: Global,
     plan: &Plan,
-    shown: &Shown,
+    seen: Seen<'_>,
     members: &[Faults],
 ) -> Result<Vec<Share>, AllocError>
     requires valid { IsValidPlan plan.now }
     requires can_run { All (CanRunMember plan.now) members.now }
-    ensures { IfOk result (λ shares. All (IsShare plan.now shown.now members.now) shares.items) }
+    ensures { IfOk result
+        (λ shares. All (IsShare plan.now seen.entry.shown.now members.now) shares.items) }
 {
     let next = AtomicUsize::new(0);
     let workers = current_num_threads(rt).min(members.len());
@@ -66,16 +78,22 @@ fn share_members<R: Threads + Sync>(
         workers,
         &|_worker: usize| -> Share
             requires { IsValidPlan plan.now × All (CanRunMember plan.now) members.now }
-            ensures { IsShare plan.entry.now shown.entry.now members.entry.now result }
-        { work(alloc, plan, shown, members, &next) },
+            ensures { IsShare plan.entry.now seen.entry.shown.now members.entry.now result }
+        { work(alloc, plan, seen, members, &next) },
     )
 }
 
-/// Takes the next member and runs it, until none remains.
-fn work(alloc: Global, plan: &Plan, shown: &Shown, members: &[Faults], next: &AtomicUsize) -> Share
+/// Takes the next member and runs it if its row is not known, until none remains.
+fn work(
+    alloc: Global,
+    plan: &Plan,
+    seen: Seen<'_>,
+    members: &[Faults],
+    next: &AtomicUsize,
+) -> Share
     requires valid { IsValidPlan plan.now }
     requires can_run { All (CanRunMember plan.now) members.now }
-    ensures { IsShare plan.now shown.now members.now result }
+    ensures { IsShare plan.now seen.entry.shown.now members.now result }
 {
     let mut scenario = plan.base.copy(alloc)?;
     let mut left = LeftRooms::none(alloc);
@@ -85,47 +103,55 @@ fn work(alloc: Global, plan: &Plan, shown: &Shown, members: &[Faults], next: &At
         if index >= members.len() {
             break;
         }
+        if !needs_run(seen.known, members, index) {
+            continue;
+        }
         let faults = &members[index];
-        let row = run_member(alloc, plan, shown, faults, &mut scenario, &mut left)?;
+        let row = run_member(alloc, plan, seen.shown, faults, &mut scenario, &mut left)?;
         rows.push(NumberedRow { index, row })?;
     }
     Ok(rows)
 }
 
-/// The rows of the members, from the slots that the workers filled.
+/// The rows of the members: those that are known, and those in the slots that the workers filled.
 fn fill_rows(
     alloc: Global,
     plan: &Plan,
-    shown: &Shown,
+    seen: Seen<'_>,
     members: &[Faults],
     slots: &[Option<Row>],
 ) -> Result<Vec<Row>, NoMemory>
     requires valid { IsValidPlan plan.now }
+    requires right { IsRight plan.now seen.shown.now seen.known.now }
     requires can_run { All (CanRunMember plan.now) members.now }
-    requires slots { AreSlots plan.now shown.now members.now slots.now }
-    ensures { IfOk result (λ rows. AreRowsFor plan.now shown.now members.now rows.items) }
+    requires slots { AreSlots plan.now seen.shown.now members.now slots.now }
+    ensures { IfOk result
+        (λ rows. AreRowsFor plan.now seen.entry.shown.now members.now rows.items) }
 {
     let mut rows = Vec::with_capacity(alloc, members.len())?;
     for index in 0..members.len() {
-        rows.push(fill_row(alloc, plan, shown, &members[index], slots[index])?)?;
+        let known = known_row(seen.known, members, rows.as_slice(), index).or(slots[index]);
+        let row = fill_row(alloc, plan, seen.shown, &members[index], known)?;
+        rows.push(row)?;
     }
     Ok(rows)
 }
 
-/// The row of the member with these faults. It is in the slot; a member that no worker took would be run here.
+/// The row of the member with these faults, which is mostly known by now; a member that no worker took would be run
+/// here.
 fn fill_row(
     alloc: Global,
     plan: &Plan,
     shown: &Shown,
     faults: &Faults,
-    slot: Option<Row>,
+    known: Option<Row>,
 ) -> Result<Row, NoMemory>
     requires valid { IsValidPlan plan.now }
     requires can_run { CanRunMember plan.now faults.now }
-    requires slot { IsSlotOf plan.now shown.now faults.now slot }
+    requires known { IsSlotOf plan.now shown.now faults.now known }
     ensures { IfOk result (IsRowFor plan.now shown.now faults.now) }
 {
-    match slot {
+    match known {
         Some(row) => Ok(row),
         None => {
             let mut scenario = plan.base.copy(alloc)?;

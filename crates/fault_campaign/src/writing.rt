@@ -1,6 +1,6 @@
 //! Runs a campaign and writes its table, batch by batch.
 
-ghost use Rattle.std.specs.Prelude.{◌≡◌, ◌+◌, ◌^◌, ◌<◌, All, List, map};
+ghost use Rattle.std.specs.Prelude.{◌≡◌, ◌+◌, ◌^◌, ◌<◌, All, IfOk, List, map};
 ghost use Rattle.campaign_defs.specs.Members.{CanRunMember, IsBaseRun, Ran, alone, members, runs_every};
 ghost use Rattle.campaign_defs.specs.Rows.{IsPlanTable};
 ghost use Rattle.campaign_defs.specs.TableText.{base_line, plan_table_text};
@@ -8,6 +8,7 @@ ghost use Rattle.campaign_defs.specs.Types.{Row};
 ghost use Rattle.campaign_rows.specs.Shown.{IsShown};
 ghost use Rattle.fault_campaign.specs.Bases.{ArePointsOf};
 ghost use Rattle.fault_campaign.specs.Given.{GivesRows, GivesRowsOver};
+ghost use Rattle.fault_campaign.specs.Known.{AreInstrsOf, IsBaseSeen, IsRight};
 ghost use Rattle.fault_points.specs.Points.{faults_at};
 ghost use Rattle.guard_defs.specs.Every.{faults_in};
 ghost use Rattle.plan_defs.specs.Plans.{IsValidPlan};
@@ -16,13 +17,18 @@ ghost use Rattle.report_text.specs.Writing.{Wrote};
 
 use crate::base::base_of;
 use crate::every::{each_alone, faults_in};
-use crate::running::run_members;
+use crate::known::{Known, nothing_known};
+use crate::running::{Seen, run_members};
 use campaign_defs::row::Row;
 use campaign_rows::{CampaignCounts, Shown, write_base_row, write_counts, write_rows};
 use fault_points::BurstPoints;
+use nook_data::lists::Items;
+use nook_data::machine::Instr;
+use nook_data::memory::NoMemory;
 use nook_data::scenario::{Fault, FaultKind, Faults};
 use nook_io::outside::Sink;
 use plan_defs::plan::{Plan, Strikes};
+use register_points::instrs_of_burst;
 use report_text::WriteStop;
 use std::alloc::Global;
 use std::thread::Threads;
@@ -39,6 +45,8 @@ struct Runner<'a, R> {
     plan: &'a Plan,
     /// The answers and final states of the base's run.
     shown: &'a Shown,
+    /// The row of the base's run.
+    base: &'a Row,
 }
 
 /// Consecutive instructions of a burst: `count` of them after the first `after` ones.
@@ -74,6 +82,7 @@ pub fn write_campaign<R: Threads + Sync, K: Sink>(
         alloc,
         plan,
         shown: &base.shown,
+        base: &base.row,
     };
     let mut totals = CampaignCounts::new();
     write_members(&run, base.points.as_slice(), &mut totals, sink)?;
@@ -105,12 +114,15 @@ fn write_members<R: Threads + Sync, K: Sink>(
 ) -> Result<(), WriteStop>
     requires valid { IsValidPlan run.now.plan.now }
     requires points { ArePointsOf run.now.plan.now points.now }
+    requires base { IsBaseSeen run.now.plan.now run.now.shown.now run.now.base.now }
     ensures { (own : Ran) → IsBaseRun run.now.plan.now own → IsShown own run.now.shown.now
         → GivesRows run.now.plan.now own (members run.now.plan.now own)
         (change K.held K.count sink.old sink.new) totals.old totals.new result }
 {
     match &run.plan.strikes {
-        Strikes::Faults(faults) => write_alone(run, faults.as_slice(), totals, sink),
+        Strikes::Faults(faults) => {
+            write_alone(run, faults.as_slice(), &nothing_known(run.base), totals, sink)
+        }
         Strikes::Members(members) => write_lists(run, members.as_slice(), totals, sink),
         Strikes::Every(kinds) => write_bursts(run, kinds.as_slice(), points, totals, sink),
     }
@@ -125,6 +137,7 @@ fn write_bursts<R: Threads + Sync, K: Sink>(
     sink: &mut K,
 ) -> Result<(), WriteStop>
     requires valid { IsValidPlan run.now.plan.now }
+    requires base { IsBaseSeen run.now.plan.now run.now.shown.now run.now.base.now }
     requires can_run { All (CanRunMember run.now.plan.now)
         (map alone (faults_at kinds.now points.now)) }
     ensures { GivesRowsOver run.now.plan.now run.now.shown.now
@@ -135,8 +148,26 @@ fn write_bursts<R: Threads + Sync, K: Sink>(
         return Ok(());
     };
     let turns = all_turns(first.burst, first.points);
-    write_burst(run, kinds, turns, totals, sink)?;
+    let instrs = instrs_in(run, first.burst)?;
+    let known = Known {
+        burst: first.burst,
+        instrs: instrs.as_slice(),
+        kinds: kinds.len(),
+        base: run.base,
+    };
+    write_burst(run, kinds, turns, &known, totals, sink)?;
     write_bursts(run, kinds, more, totals, sink)
+}
+
+/// The instructions of a burst of the base's run, if the campaign has no guard.
+fn instrs_in<R>(run: &Runner<'_, R>, burst: u32) -> Result<Items<Option<Instr>>, NoMemory>
+    requires { IsValidPlan run.now.plan.now }
+    ensures { IfOk result (AreInstrsOf run.now.plan.now burst) }
+{
+    if run.plan.guard {
+        return Ok(Items::new(run.alloc));
+    }
+    instrs_of_burst(run.alloc, &run.plan.base, run.plan.part, burst)
 }
 
 /// The instructions of a burst, from the first on.
@@ -159,10 +190,12 @@ fn write_burst<R: Threads + Sync, K: Sink>(
     run: &Runner<'_, R>,
     kinds: &[FaultKind],
     turns: Turns,
+    known: &Known<'_>,
     totals: &mut CampaignCounts,
     sink: &mut K,
 ) -> Result<(), WriteStop>
     requires valid { IsValidPlan run.now.plan.now }
+    requires right { IsRight run.now.plan.now run.now.shown.now known.now }
     requires few { turns.after + turns.count < 2 ^ 32 }
     requires can_run { All (CanRunMember run.now.plan.now)
         (map alone (faults_in kinds.now turns.burst turns.after turns.count)) }
@@ -175,13 +208,13 @@ fn write_burst<R: Threads + Sync, K: Sink>(
     }
     let count = turns.count.min(turns_at_once(kinds.len()));
     let faults = faults_in(run.alloc, kinds, turns.burst, turns.after, count)?;
-    write_alone(run, faults.as_slice(), totals, sink)?;
+    write_alone(run, faults.as_slice(), known, totals, sink)?;
     let later = Turns {
         after: turns.after + count,
         count: turns.count - count,
         ..turns
     };
-    write_burst(run, kinds, later, totals, sink)
+    write_burst(run, kinds, later, known, totals, sink)
 }
 
 /// How many instructions of a burst fit into a batch with this many kinds of fault: at least one.
@@ -198,10 +231,12 @@ fn turns_at_once(kinds: usize) -> u32
 fn write_alone<R: Threads + Sync, K: Sink>(
     run: &Runner<'_, R>,
     faults: &[Fault],
+    known: &Known<'_>,
     totals: &mut CampaignCounts,
     sink: &mut K,
 ) -> Result<(), WriteStop>
     requires valid { IsValidPlan run.now.plan.now }
+    requires right { IsRight run.now.plan.now run.now.shown.now known.now }
     requires can_run { All (CanRunMember run.now.plan.now) (map alone faults.now) }
     ensures { GivesRowsOver run.now.plan.now run.now.shown.now (map alone faults.now)
         (change K.held K.count sink.old sink.new) totals.old totals.new result }
@@ -211,8 +246,8 @@ fn write_alone<R: Threads + Sync, K: Sink>(
     }
     let (batch, more) = faults.split_at(faults.len().min(BATCH));
     let members = each_alone(run.alloc, batch)?;
-    write_batch(run, members.as_slice(), totals, sink)?;
-    write_alone(run, more, totals, sink)
+    write_batch(run, members.as_slice(), known, totals, sink)?;
+    write_alone(run, more, known, totals, sink)
 }
 
 /// Writes the rows of members, each given by its faults, and counts them.
@@ -231,7 +266,7 @@ fn write_lists<R: Threads + Sync, K: Sink>(
         return Ok(());
     }
     let (batch, more) = members.split_at(members.len().min(BATCH));
-    write_batch(run, batch, totals, sink)?;
+    write_batch(run, batch, &nothing_known(run.base), totals, sink)?;
     write_lists(run, more, totals, sink)
 }
 
@@ -239,15 +274,21 @@ fn write_lists<R: Threads + Sync, K: Sink>(
 fn write_batch<R: Threads + Sync, K: Sink>(
     run: &Runner<'_, R>,
     members: &[Faults],
+    known: &Known<'_>,
     totals: &mut CampaignCounts,
     sink: &mut K,
 ) -> Result<(), WriteStop>
     requires valid { IsValidPlan run.now.plan.now }
+    requires right { IsRight run.now.plan.now run.now.shown.now known.now }
     requires can_run { All (CanRunMember run.now.plan.now) members.now }
     ensures { GivesRowsOver run.now.plan.now run.now.shown.now members.now
         (change K.held K.count sink.old sink.new) totals.old totals.new result }
 {
-    let rows = run_members(run.rt, run.alloc, run.plan, run.shown, members)?;
+    let seen = Seen {
+        shown: run.shown,
+        known,
+    };
+    let rows = run_members(run.rt, run.alloc, run.plan, seen, members)?;
     let before = totals.members;
     totals.count_all(rows.as_slice())?;
     write_rows(run.alloc, sink, before + 1, rows.as_slice())

@@ -3,4 +3,4 @@ use Rattle.fault_campaign.specs.NumberedRows.{AreRowsFor}
 use Rattle.fault_campaign.proofs.running.fill_rows.Given as goal
 
 abbrev pub invariant-loop-index : goal.invariant-loop-index
-invariant-loop-index l = AreRowsFor l.plan l.shown (take l.index l.members) l.rows.items
+invariant-loop-index l = AreRowsFor l.plan l.seen.shown.now (take l.index l.members) l.rows.items

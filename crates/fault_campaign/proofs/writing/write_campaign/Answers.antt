@@ -5,8 +5,12 @@ use Rattle.campaign_defs.specs.Rows.{plan_row}
 use Rattle.campaign_defs.specs.TableText.{base_line, plan_last_line, plan_row_lines}
 use Rattle.campaign_rows.specs.CampaignCounts.{campaign_counts_text}
 use Rattle.fault_campaign.proofs.Given.{line_of_base, shown_of_base, wrote_as}
+use Rattle.fault_campaign.proofs.KnownRows.{base_seen}
 use Rattle.report_text.proofs.WroteLemmas.{both, cut}
 use Rattle.fault_campaign.proofs.writing.write_campaign.Goals as goal
+
+pub write_members-requires-clause-base : goal.write_members-requires-clause-base
+write_members-requires-clause-base g c κs within = base_seen c.args.plan.now c.in_ok-base.base c.in_ok-base.ensures
 
 pub returns-in_err-write_first : goal.returns-in_err-write_first
 returns-in_err-write_first g c base rows table =

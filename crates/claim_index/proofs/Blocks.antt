@@ -1,10 +1,8 @@
 -- What changes if the calls of one block change.
-use Rattle.std.proofs.Common.{◌≡◌, ℕ, ◌==◌, ◌<◌, ◌≤◌, ◌+◌, ◌&&◌, nat_le, nat_lt, Bool, true, false, cond, Option, Some, None, List, refl, sym, ap, ◌∙◌, inl, inr, arith, if◌then◌else◌}
-use Rattle.std.specs.Prelude.{Vec, IsSome}
-use Rattle.std.specs.BTreeMap.{BTreeMap, UpdatesBy, get, is_at}
-use Rattle.std.specs.Ordering.{nat_cmp}
+use Rattle.std.proofs.Common.{◌≡◌, ℕ, zero, suc, ◌==◌, ◌<◌, ◌≤◌, ◌+◌, ◌&&◌, nat_le, nat_lt, Bool, true, false, cond, Some, List, [], ◌∷◌, length, get_or, refl, sym, ap, ◌∙◌, inl, inr, arith, if◌then◌else◌}
+use Rattle.std.specs.Prelude.{Vec, slice_get, slice_set}
 use Rattle.std.proofs.lemmas.Bool.{cases_eq, cases_lt, eq-eqb, ne_eqb, le-leb, lt-ltb, le-ltb}
-use Rattle.std.proofs.lemmas.Grind.{common_steps}
+use Rattle.std.proofs.lemmas.Option.{slice_get_past, slice_get_read}
 use Rattle.claim_index.specs.Indexed.{is_within, numbers_in}
 
 and_true : (b : Bool) → (b && true) ≡ b
@@ -15,26 +13,35 @@ and_false : (b : Bool) → (b && false) ≡ false
 and_false true = refl
 and_false false = refl
 
-is_at_same : (block : ℕ) → is_at (nat_cmp block) block ≡ true
-is_at_same block = grind (arith, common_steps)
+get_set_here : {X : Type 0} (xs : List X) (i : ℕ) (x : X) → i < length xs → slice_get (slice_set xs i x) i ≡ Some x
+get_set_here [] i x less = absurd (omega (arith, less))
+get_set_here (y ∷ xs) zero x less = refl
+get_set_here (y ∷ xs) (suc i) x less = get_set_here xs i x (omega (arith, less))
 
-is_at_other : (block q : ℕ) → (q ≡ block → ⊥) → is_at (nat_cmp block) q ≡ false
-is_at_other block q n = grind (arith, common_steps)
+get_set_other : {X : Type 0} (xs : List X) (i q : ℕ) (x : X) → (q ≡ i → ⊥) → slice_get (slice_set xs i x) q ≡ slice_get xs q
+get_set_other [] i q x d = refl
+get_set_other (y ∷ xs) zero zero x d = absurd (d refl)
+get_set_other (y ∷ xs) zero (suc q) x d = refl
+get_set_other (y ∷ xs) (suc i) zero x d = refl
+get_set_other (y ∷ xs) (suc i) (suc q) x d = get_set_other xs i q x (λ e. d (ap suc e))
 
-pub written_at : {A : Type 0} (m n : BTreeMap ℕ (Vec ℕ A)) (block : ℕ) (v w : Vec ℕ A) (f : List ℕ → List ℕ)
-    → UpdatesBy nat_cmp (nat_cmp block) m n (Some w) → get nat_cmp m block ≡ Some v → w.items ≡ f v.items
-    → (q : ℕ) → numbers_in (get nat_cmp n q) ≡ (if q == block then f (numbers_in (get nat_cmp m q)) else numbers_in (get nat_cmp m q))
-written_at m n block v w f u old e q = elim (cases_eq q block) [
-  | inl s ↦ rw s (
-      let k : get nat_cmp n block ≡ Some w = u.0 block ∙ rw (is_at_same block) refl in
-      rw (k, old, eq-eqb block block refl) e)
-  | inr d ↦
-      let k : get nat_cmp n q ≡ get nat_cmp m q = u.0 q ∙ rw (is_at_other block q d) refl in
-      rw (k, ne_eqb q block d) refl
+-- the lists of a table after one of them changes
+pub set_at : {A : Type 0} (vs : List (Vec ℕ A)) (block : ℕ) (v w : Vec ℕ A) (f : List ℕ → List ℕ) → block < length vs
+    → v ≡ get_or vs block v → w.items ≡ f v.items
+    → (q : ℕ) → numbers_in (slice_get (slice_set vs block w) q) ≡ (if q == block then f (numbers_in (slice_get vs q)) else numbers_in (slice_get vs q))
+set_at vs block v w f less is e q = elim (cases_eq q block) [
+  | inl s ↦
+      let was : slice_get vs block ≡ Some v = slice_get_read vs (length vs) block v refl less is in
+      rw (s, get_set_here vs block w less, was, eq-eqb block block refl) e
+  | inr d ↦ rw (get_set_other vs block q w d, ne_eqb q block d) refl
 ]
 
-pub some_is : {X : Type 0} (o : Option X) (v : X) → Some v ≡ o → IsSome o
-some_is o v e = rw (← e) refl
+pub past_at : {A : Type 0} (vs : List (Vec ℕ A)) (block : ℕ) (f : List ℕ → List ℕ) → length vs ≤ block → [] ≡ f []
+    → (q : ℕ) → numbers_in (slice_get vs q) ≡ (if q == block then f (numbers_in (slice_get vs q)) else numbers_in (slice_get vs q))
+past_at vs block f past e q = elim (cases_eq q block) [
+  | inl s ↦ rw (s, slice_get_past vs block past, eq-eqb block block refl) e
+  | inr d ↦ rw (ne_eqb q block d) refl
+]
 
 -- the blocks of a range that come before one
 

@@ -1,7 +1,5 @@
-use Rattle.std.specs.Prelude.{ℕ, ◌≡◌, ◌<◌, ◌&&◌, Bool, Option, Some, None, List, [], ◌∷◌, map, filter, nat_le, nat_lt}
+use Rattle.std.specs.Prelude.{ℕ, ◌≡◌, ◌<◌, ◌&&◌, Bool, Option, Some, None, List, [], ◌∷◌, map, filter, nat_le, nat_lt, slice_get}
 use Rattle.std.specs.Prelude.{Vec, vec_len, vec_capacity, if◌then◌else◌}
-use Rattle.std.specs.BTreeMap.{get}
-use Rattle.std.specs.Ordering.{nat_cmp}
 use Rattle.claim_index.specs.Claims.{takes_all, is_reading, is_writing, takes_frames, takes_stream, first_claimed}
 use Rattle.claim_index.specs.Claims.{end_claimed}
 use Rattle.claim_index.specs.declared.by_block.ByBlock.{ByBlock}
@@ -17,7 +15,7 @@ numbers_in (Some numbers) = numbers.items
 
 -- the numbers of the calls that claim a block
 abbrev pub numbers_at : ℕ → ByBlock → List ℕ
-numbers_at block b = numbers_in (get nat_cmp b.numbers block)
+numbers_at block b = numbers_in (slice_get b.numbers.items block)
 
 abbrev pub has_room : {A : Type 0} → Option (Vec ℕ A) → Type 0
 has_room None = ⊥
@@ -25,7 +23,7 @@ has_room (Some numbers) = vec_len numbers < vec_capacity numbers
 
 -- a block has room for one more number
 abbrev pub HasRoomAt : ℕ → ByBlock → Type 0
-HasRoomAt block b = has_room (get nat_cmp b.numbers block)
+HasRoomAt block b = has_room (slice_get b.numbers.items block)
 
 abbrev pub is_within : ℕ → ℕ → ℕ → Bool
 is_within first end block = nat_le first block && nat_lt block end

@@ -1,19 +1,18 @@
 //! The calls that claim each block.
 
-ghost use Rattle.std.specs.Prelude.{◌≡◌, ◌++◌, ◌∷◌, [], ℕ, true, not, ◌==◌, filter, slice_get, if◌then◌else◌, OnOk};
+ghost use Rattle.std.specs.Prelude.{◌≡◌, ◌<◌, ◌≤◌, ◌++◌, ◌∷◌, [], ℕ, true, not, ◌==◌, filter, slice_get, vec_len, if◌then◌else◌, OnOk};
 ghost use Rattle.std.specs.Prelude.{OnErr};
 ghost use Rattle.claim_index.specs.Indexed.{HasRoomAt, is_within, least, numbers_at};
 
 use crate::claimants::first_of;
 use nook_data::memory::NoMemory;
 use std::alloc::Global;
-use std::collections::BTreeMap;
 
-/// For each block the numbers of the calls that claim it, in the order in which they came. A block that is no longer
-/// claimed keeps its empty list.
+/// For each block, by its number, the numbers of the calls that claim it, in the order in which they came. Blocks past
+/// the end are claimed by none.
 #[derive(Drop)]
 pub struct ByBlock {
-    numbers: BTreeMap<u64, Vec<u32>>,
+    numbers: Vec<Vec<u32>>,
 }
 
 impl ByBlock {
@@ -22,7 +21,7 @@ impl ByBlock {
         ensures { (block : ℕ) → numbers_at block result ≡ [] }
     {
         ByBlock {
-            numbers: BTreeMap::new(alloc),
+            numbers: Vec::new(alloc),
         }
     }
 
@@ -56,7 +55,7 @@ impl ByBlock {
     pub fn first_at(&self, block: u64) -> Option<u32>
         ensures { result ≡ slice_get (numbers_at block self.now) 0 }
     {
-        match self.numbers.get(&block) {
+        match self.numbers.get(block as usize) {
             Some(numbers) => first_of(numbers),
             None => None,
         }
@@ -68,19 +67,33 @@ impl ByBlock {
         ensures room { OnOk result
             ((block : ℕ) → is_within first end block ≡ true → HasRoomAt block self.new) }
     {
+        self.lengthen(alloc, end)?;
         for block in first..end {
-            self.make_room(alloc, block)?;
+            self.make_room(block)?;
         }
         Ok(())
     }
 
-    fn make_room(&mut self, alloc: Global, block: u64) -> Result<(), NoMemory>
+    /// Makes the table contain the blocks up to `end`.
+    fn lengthen(&mut self, alloc: Global, end: u64) -> Result<(), NoMemory>
+        ensures same { (block : ℕ) → numbers_at block self.new ≡ numbers_at block self.old }
+        ensures long { OnOk result (end ≤ vec_len self.new.numbers) }
+    {
+        for block in self.numbers.len() as u64..end {
+            self.numbers.push(Vec::new(alloc))?;
+        }
+        Ok(())
+    }
+
+    /// Makes room for one more call at a block of the table.
+    fn make_room(&mut self, block: u64) -> Result<(), NoMemory>
+        requires { block < vec_len self.old.numbers }
         ensures same { (other : ℕ) → numbers_at other self.new ≡ numbers_at other self.old }
         ensures room { OnOk result (HasRoomAt block self.new) }
         ensures rooms { (other : ℕ) → HasRoomAt other self.old → HasRoomAt other self.new }
+        ensures size { vec_len self.new.numbers ≡ vec_len self.old.numbers }
     {
-        let numbers = self.numbers.entry(block)?.or_insert(Vec::new(alloc));
-        numbers.reserve(1)?;
+        self.numbers[block as usize].reserve(1)?;
         Ok(())
     }
 
@@ -104,7 +117,7 @@ impl ByBlock {
         ensures rooms { (other : ℕ) → (other ≡ block → ⊥) → HasRoomAt other self.old
             → HasRoomAt other self.new }
     {
-        if let Some(numbers) = self.numbers.get_mut(&block) {
+        if let Some(numbers) = self.numbers.get_mut(block as usize) {
             numbers.push(call).unwrap();
         }
     }
@@ -114,7 +127,7 @@ impl ByBlock {
             ≡ (if other == block then filter (λ n. not (n == call)) (numbers_at other self.old)
             else numbers_at other self.old) }
     {
-        if let Some(numbers) = self.numbers.get_mut(&block) {
+        if let Some(numbers) = self.numbers.get_mut(block as usize) {
             numbers.retain(|number| *number != call);
         }
     }

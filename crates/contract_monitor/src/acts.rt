@@ -15,7 +15,7 @@ use crate::watching::{
     is_replay_of, is_send_of, register,
 };
 use nook_data::clause::Clause;
-use nook_data::lists::{TryCopy, Words};
+use nook_data::lists::Words;
 use nook_data::machine::Act;
 use nook_data::memory::NoMemory;
 
@@ -111,7 +111,7 @@ impl Known {
                 change_calls(&mut self.calls, call, Change::Failed { block: *block })
             }
             Act::Store { block, words } => {
-                set_block(&mut self.medium, *block, words.copy(self.alloc)?);
+                set_block(&mut self.medium, *block, words.copied(self.alloc)?);
                 Ok(())
             }
             Act::Sent { .. } => change_calls(&mut self.calls, call, Change::Sent),
@@ -132,7 +132,7 @@ impl Known {
         ensures { OnOk result (self.new ≡ kept_act 0 self.old (Act.Popped frame.now)) }
     {
         let _first = self.ring.pop_front();
-        self.pending.push_back(frame.copy(self.alloc)?)?;
+        self.pending.push_back(frame.copied(self.alloc)?)?;
         self.effects.popped = more(self.effects.popped, 1)?;
         self.effects.popped_since = more(self.effects.popped_since, 1)?;
         Ok(())

@@ -78,7 +78,7 @@ pub fn copy_blocks(alloc: Global, blocks: &[Words]) -> Result<Vec<Words>, NoMemo
 {
     let mut made = Vec::with_capacity(alloc, blocks.len())?;
     for block in blocks {
-        made.push(block.copy(alloc)?)?;
+        made.push(block.copied(alloc)?)?;
     }
     Ok(made)
 }
@@ -147,24 +147,12 @@ pub fn get_blocks(
 ) -> Result<Words, NoMemory>
     ensures { IfOk result (λ made. made ≡ get_blocks medium.now first count) }
 {
-    let mut made = Words::new(alloc);
+    let mut made = Vec::with_capacity(alloc, count as usize * BLOCK_WORDS)?;
     for i in 0..count {
-        push_all(
-            &mut made,
-            block_words(medium, u64::from(first) + u64::from(i)),
-        )?;
+        let words = block_words(medium, u64::from(first) + u64::from(i));
+        made.extend_from_slice(words)?;
     }
-    Ok(made)
-}
-
-/// Appends words.
-fn push_all(made: &mut Words, words: &[u32]) -> Result<(), NoMemory>
-    ensures { OnOk result (made.new ≡ made.old ++ words.now) }
-{
-    for word in words {
-        made.push(*word)?;
-    }
-    Ok(())
+    Ok(Words::from_vec(made))
 }
 
 /// Whether a block is among these.

@@ -11,7 +11,7 @@ use crate::calls::{Call, Change, change_calls, close_call, close_calls, find_cal
 use crate::known::Known;
 use machine_defs::service_names::is_net_rx;
 use nook_data::calls::{Answer, Op};
-use nook_data::lists::{TryCopy, Words};
+use nook_data::lists::Words;
 use nook_data::memory::NoMemory;
 use nook_data::steps::End;
 
@@ -37,7 +37,7 @@ impl Known {
     {
         self.effects.arrived = more(self.effects.arrived, 1)?;
         if kept {
-            self.ring.push_back(frame.copy(self.alloc)?)?;
+            self.ring.push_back(frame.copied(self.alloc)?)?;
             self.effects.kept = more(self.effects.kept, 1)?;
         } else {
             self.effects.lost = more(self.effects.lost, 1)?;

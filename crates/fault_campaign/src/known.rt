@@ -50,12 +50,7 @@ pub fn needs_run(known: &Known<'_>, members: &[Faults], index: usize) -> bool
 
 /// The row of a member, if it is known from the base or from an earlier member. `rows` are those of the members before
 /// it.
-pub fn known_row(
-    known: &Known<'_>,
-    members: &[Faults],
-    rows: &[Row],
-    index: usize,
-) -> Option<Row>
+pub fn known_row(known: &Known<'_>, members: &[Faults], rows: &[Row], index: usize) -> Option<Row>
     requires { index < length members.now }
     ensures { (plan : Plan) (shown : Shown) → IsRight plan shown known.now
         → AreRowsFor plan shown (take index members.now) rows.now

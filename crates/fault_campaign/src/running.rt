@@ -84,13 +84,7 @@ fn share_members<R: Threads + Sync>(
 }
 
 /// Takes the next member and runs it if its row is not known, until none remains.
-fn work(
-    alloc: Global,
-    plan: &Plan,
-    seen: Seen<'_>,
-    members: &[Faults],
-    next: &AtomicUsize,
-) -> Share
+fn work(alloc: Global, plan: &Plan, seen: Seen<'_>, members: &[Faults], next: &AtomicUsize) -> Share
     requires valid { IsValidPlan plan.now }
     requires can_run { All (CanRunMember plan.now) members.now }
     ensures { IsShare plan.now seen.entry.shown.now members.now result }

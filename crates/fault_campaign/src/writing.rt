@@ -121,7 +121,13 @@ fn write_members<R: Threads + Sync, K: Sink>(
 {
     match &run.plan.strikes {
         Strikes::Faults(faults) => {
-            write_alone(run, faults.as_slice(), &nothing_known(run.base), totals, sink)
+            write_alone(
+                run,
+                faults.as_slice(),
+                &nothing_known(run.base),
+                totals,
+                sink,
+            )
         }
         Strikes::Members(members) => write_lists(run, members.as_slice(), totals, sink),
         Strikes::Every(kinds) => write_bursts(run, kinds.as_slice(), points, totals, sink),

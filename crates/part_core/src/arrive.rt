@@ -5,7 +5,7 @@ ghost use Rattle.part_defs.specs.Steps.{after_arrival, enabled};
 ghost use Rattle.part_core.specs.Turning.{IsStepOf};
 
 use crate::state::State;
-use nook_data::lists::{TryCopy, Words};
+use nook_data::lists::Words;
 use nook_data::memory::NoMemory;
 use nook_data::steps::{Event, Step};
 
@@ -16,7 +16,7 @@ impl State {
         requires { enabled self.old (Step.Arrive frame) ≡ true }
         ensures { IsStepOf (after_arrival frame self.old) self.old result self.new }
     {
-        let shown = frame.copy(self.alloc)?;
+        let shown = frame.copied(self.alloc)?;
         self.arrived += 1;
         let kept = self.domain.arrive(frame);
         Ok(Event::Arrive { frame: shown, kept })

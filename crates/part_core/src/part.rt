@@ -91,7 +91,7 @@ impl Part {
         requires { IsValidPart spec }
         ensures { IfOk result (λ part. part ≡ opening_run spec) }
     {
-        let script = FaultScript::new(spec.faults.copy(alloc)?)?;
+        let script = FaultScript::new(spec.faults.copied(alloc)?)?;
         let state = Box::new(alloc, State::over(alloc, spec, left)?)?;
         Ok(Part {
             state,

@@ -8,5 +8,5 @@ loop-i-preserved c =
     let step = blocks_more c.args.medium.now c.args.first c.args.count c.loop-i.i c.loop-i-test.true in
     let words = unwrap_or (slice_get c.args.medium.now (c.args.first + c.loop-i.i)) [] in
     let rest = get_blocks c.args.medium.now (c.args.first + (c.loop-i.i + 1)) (c.args.count - (c.loop-i.i + 1)) in
-    rw (c.in_ok-push_all.ensures, c.block_words.ensures, c.from.ensures, c.from-in-loop-i.ensures)
-    (append_assoc c.loop-i.made words rest ∙ (ap (λ t. c.loop-i.made ++ t) (sym step) ∙ c.loop-i.invariant))
+    rw (c.in_ok-extend_from_slice.ensures.items, c.block_words-words.ensures, c.from.ensures, c.from-in-loop-i.ensures)
+    (append_assoc c.loop-i.made.items words rest ∙ (ap (λ t. c.loop-i.made.items ++ t) (sym step) ∙ c.loop-i.invariant))

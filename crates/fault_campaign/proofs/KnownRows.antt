@@ -1,7 +1,8 @@
 -- Rows that are known without a run.
-use Rattle.std.proofs.Common.{◌≡◌, ◌∙◌, refl, sym, subst, ap, ℕ, zero, suc, ◌-◌, ◌<◌, ◌==◌, Bool, true, false, if◌then◌else◌, List, [], ◌∷◌, length, take, get_or, slice_get, arith, Option, Some, None}
-use Rattle.std.proofs.lemmas.Bool.{eqb-true, false≢true}
+use Rattle.std.proofs.Common.{◌≡◌, ◌∙◌, refl, sym, subst, ap, ℕ, zero, suc, ◌-◌, ◌<◌, ◌==◌, Bool, true, false, if◌then◌else◌, List, [], ◌∷◌, length, take, get_or, slice_get, arith, inl, inr, Option, Some, None}
+use Rattle.std.proofs.lemmas.Bool.{cases_lt, eqb-true, false≢true, le-ltb, lt-ltb}
 use Rattle.std.proofs.lemmas.List.{get_or_default}
+use Rattle.std.proofs.lemmas.Option.{slice_get_past, slice_get_read}
 use Rattle.std.specs.List.{AllZip}
 use Rattle.std.specs.Option.{option_map, option_or}
 use Rattle.std.specs.Prelude.{IfSome, is_some, nat_lt}
@@ -113,16 +114,17 @@ zipped_front R (a ∷ xs) (b ∷ ys) (suc n) (suc i) y d all at less = zipped_fr
 -- the item that is at an index, if there is one
 
 none_past : (rows : List Row) (index : ℕ) → false ≡ nat_lt index (length rows) → None ≡ slice_get rows index
-none_past [] index e = refl
-none_past (row ∷ rows) zero e = absurd (false≢true e)
-none_past (row ∷ rows) (suc index) e = none_past rows index e
+none_past rows index e = elim (cases_lt index (length rows)) [
+  | inl less ↦ absurd (false≢true (e ∙ lt-ltb index (length rows) less))
+  | inr past ↦ sym (slice_get_past rows index past)
+]
 
 some_there : (rows : List Row) (index : ℕ) (row : Row) → true ≡ nat_lt index (length rows) → row ≡ get_or rows index row
     → Some row ≡ slice_get rows index
-some_there [] zero row e is = absurd (false≢true (sym e))
-some_there [] (suc index) row e is = absurd (false≢true (sym e))
-some_there (first ∷ rows) zero row e is = ap Some is
-some_there (first ∷ rows) (suc index) row e is = some_there rows index row e is
+some_there rows index row e is = elim (cases_lt index (length rows)) [
+  | inl less ↦ sym (slice_get_read rows (length rows) index row refl less is)
+  | inr past ↦ absurd (false≢true (sym (le-ltb index (length rows) past) ∙ sym e))
+]
 
 pub copied_there : {R : Type 0} (now : R → Row) (rows : List Row) (index : ℕ) (o : Option R) → is_some o ≡ nat_lt index (length rows)
     → IfSome o (λ x. now x ≡ get_or rows index (now x)) → option_map now o ≡ slice_get rows index

@@ -136,10 +136,7 @@ module _ (entries : List Entry) (m : Machine) (b r v : ℕ) where
 pub sound_in : (entries : List Entry) (m : Machine) (b a : ℕ) (kind : FaultKind)
     → IsSoundIn entries m b kind a (source_of (instrs_from 4096 entries m []) kind a)
 sound_in entries m b a (fault.Reg r v) = sound_register entries m b r v a
-sound_in entries m b a fault.Trap = tt
-sound_in entries m b a fault.Hang = tt
-sound_in entries m b a (fault.Poke address value) = tt
-sound_in entries m b a (fault.Code address value) = tt
+sound_in entries m b a _ = tt
 
 -- nothing is said if no instructions are known
 pub nothing_said : (kind : FaultKind) (a : ℕ) → source_of [] kind a ≡ source.Run
@@ -152,7 +149,4 @@ nothing_said (fault.Reg r v) a = rw (none_before a, none_left a) refl
     none_left : (n : ℕ) → is_set_from (drop n []) r ≡ false
     none_left zero = refl
     none_left (suc n) = refl
-nothing_said fault.Trap a = refl
-nothing_said fault.Hang a = refl
-nothing_said (fault.Poke address value) a = refl
-nothing_said (fault.Code address value) a = refl
+nothing_said _ a = refl

@@ -6,4 +6,4 @@ pub returns : goal.returns
 returns c plan shown are =
     row_at plan shown c.args.members.now c.args.rows.now c.args.index c.in_ok-earlier.earlier c.copied.result
     (c.copied.ensures
-    ∙ copied_there (λ x. x.now) c.args.rows.now c.in_ok-earlier.earlier c.get.result c.get.ensures.lookup.0 c.get.ensures.lookup.1.0) are c.in_ok-earlier.ensures
+    ∙ copied_there (λ x. x.now) c.args.rows.now c.in_ok-earlier.earlier c.get.result c.get.ensures.lookup.0 c.get.ensures.lookup.1) are c.in_ok-earlier.ensures

@@ -8,6 +8,9 @@ run_members-requires-clause-can_run g c κs within =
     can_run_as c.args.campaign.now c.in_ok-plan.plan c.in_ok-base.base _ c.requires c.in_ok-plan.ensures c.in_ok-base.ensures
     (c.as_slice-2.ensures ∙ (c.in_ok-members.ensures ∙ ap (map alone) c.as_slice.ensures))
 
+pub run_members-requires-clause-right : goal.run_members-requires-clause-right
+run_members-requires-clause-right g c κs within = c.nothing_known-known.ensures c.in_ok-plan.plan c.in_ok-base.base.shown
+
 pub returns : goal.returns
 returns g c =
     table_as c.counts_of.result c.args.campaign.now c.in_ok-plan.plan c.in_ok-base.base c.as_slice-2.result.now c.in_ok-rows.rows

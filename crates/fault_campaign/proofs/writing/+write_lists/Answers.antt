@@ -2,6 +2,9 @@ use Rattle.std.proofs.lemmas.Result.{err_from_is_err_and}
 use Rattle.fault_campaign.proofs.Given.{gives_cut, gives_then, split_whole}
 use Rattle.fault_campaign.proofs.writing.+write_lists.Goals as goal
 
+pub write_batch-requires-clause-right : goal.write_batch-requires-clause-right
+write_batch-requires-clause-right g t c κs within = c.nothing_known.ensures c.args.run.now.plan.now c.args.run.now.shown.now
+
 pub returns-in_err-write_batch : goal.returns-in_err-write_batch
 returns-in_err-write_batch g t c own shown =
     let q = err_from_is_err_and c.from_residual.result c.from_residual.ensures.1 in

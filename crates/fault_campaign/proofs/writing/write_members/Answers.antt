@@ -14,6 +14,9 @@ write_alone-requires-clause-can_run g c κs within =
     (ap (λ s. members_of c.args.run.now.plan.now s c.requires.points.ran) c.in-Faults.is ∙ ap (map alone) (sym c.as_slice.ensures))
     (members_can_run c.args.run.now.plan.now c.requires.points.ran c.requires.valid c.requires.points.is_base)
 
+pub write_alone-requires-clause-right : goal.write_alone-requires-clause-right
+write_alone-requires-clause-right g c κs within = c.nothing_known.ensures c.args.run.now.plan.now c.args.run.now.shown.now
+
 pub write_lists-requires-clause-can_run : goal.write_lists-requires-clause-can_run
 write_lists-requires-clause-can_run g c κs within =
     subst (All (CanRunMember c.args.run.now.plan.now))

@@ -7,3 +7,4 @@ pub mod OneBlock
 pub mod Representing
 pub mod Tracking
 pub mod FirstWrong
+pub mod Overwriting

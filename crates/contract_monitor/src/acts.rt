@@ -111,8 +111,7 @@ impl Known {
                 change_calls(&mut self.calls, call, Change::Failed { block: *block })
             }
             Act::Store { block, words } => {
-                set_block(&mut self.medium, *block, words.copied(self.alloc)?);
-                Ok(())
+                set_block(self.alloc, &mut self.medium, *block, words)
             }
             Act::Sent { .. } => change_calls(&mut self.calls, call, Change::Sent),
             Act::Popped { frame } => self.see_popped(frame),

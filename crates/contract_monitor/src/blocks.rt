@@ -97,12 +97,40 @@ pub fn copy_queue<T: TryCopy + Drop>(
     Ok(made)
 }
 
-/// Sets a block's words; a number past the last block changes nothing.
-pub fn set_block(medium: &mut [Words], block: u32, words: Words)
-    ensures { medium.new ≡ slice_set medium.old block words }
+/// Sets a block's words; a number past the last block changes nothing. It takes no memory for as many words as before.
+pub fn set_block(
+    alloc: Global,
+    medium: &mut [Words],
+    block: u32,
+    words: &Words,
+) -> Result<(), NoMemory>
+    ensures { OnOk result (medium.new ≡ slice_set medium.old block words.now) }
 {
     if (block as usize) < medium.len() {
-        medium[block as usize] = words;
+        set_words(alloc, &mut medium[block as usize], words)?;
+    }
+    Ok(())
+}
+
+/// Gives a list the words of another one.
+fn set_words(alloc: Global, list: &mut Words, words: &Words) -> Result<(), NoMemory>
+    ensures { OnOk result (list.new ≡ words.now) }
+{
+    if list.len() == words.len() {
+        overwrite(list, words);
+    } else {
+        *list = words.copied(alloc)?;
+    }
+    Ok(())
+}
+
+/// Overwrites the words of a list by those of another one of the same length. It takes no memory.
+fn overwrite(list: &mut Words, words: &Words)
+    requires { length list.old ≡ length words.now }
+    ensures { list.new ≡ words.now }
+{
+    for index in 0..words.len() {
+        list.set(index, *words.get(index));
     }
 }
 

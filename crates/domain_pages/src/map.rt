@@ -177,6 +177,8 @@ impl PageMap {
     }
 
     /// The kernel's own write, at any address up to 8,191.
+    // Inlined, since a driver's write, the usual caller, never reaches the text.
+    #[inline(always)]
     pub fn kernel_write(&mut self, address: u32, word: Word)
         requires { address < MEMORY_WORDS }
         ensures written { self.new ≡ page_written self.old address word }

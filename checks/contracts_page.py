@@ -91,7 +91,7 @@ def read_line(reader: Reader, lines: list[str], at: int) -> None:
         reader.about = []
     elif line.strip().startswith("///"):
         reader.about = [*reader.about, line.strip().removeprefix("///").strip()]
-    elif not line.strip().startswith("#["):
+    elif not line.strip().startswith(("#[", "//")):
         reader.about = []
         enter(reader, line)
 

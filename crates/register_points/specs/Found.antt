@@ -3,6 +3,7 @@ use Rattle.std.specs.List.{list_any}
 use Rattle.guard_defs.specs.Every.{put_at}
 use Rattle.machine_defs.specs.BurstFaults.{is_of_burst}
 use Rattle.nook_data.specs.Types.{Context, Event, Fault, FaultKind, Instr, PartSpec, Scenario}
+use Rattle.nook_data.specs.declared.limits.TheConstants.{MOST_INSTRUCTIONS}
 use Rattle.nook_data.specs.declared.steps.Event.TheVariants as event
 use Rattle.part_defs.specs.Domain.{context_of, machine_of}
 use Rattle.part_defs.specs.State.{DomainState}
@@ -21,7 +22,7 @@ has_faults burst faults = list_any (is_of_burst burst) faults
 
 -- the instructions of what runs in a context, except the one that ends the burst
 abbrev pub instrs_by : Context → DomainState → List (Option Instr)
-instrs_by x d = instrs_from 4096 d.entries (machine_of x d) []
+instrs_by x d = instrs_from MOST_INSTRUCTIONS d.entries (machine_of x d) []
 
 abbrev pub instrs_of_context : DomainState → Option Context → List (Option Instr)
 instrs_of_context d None = []

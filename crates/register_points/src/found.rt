@@ -15,7 +15,7 @@ use sim_run::{FoundBurst, run_to_burst};
 use std::alloc::Global;
 
 /// The instructions of burst number `burst` of part `index` in the scheduled run of a valid scenario, except the one
-/// that ends the burst. There are none if the run has no such burst, or if the part has faults of its own in it.
+/// that ends the burst. There are none if the run has no such burst, or if faults of the part strike in it.
 ///
 /// # Errors
 ///

@@ -1,4 +1,4 @@
-//! Which members of a campaign need no run of their own: a register that is set before an instruction that does not use
+//! Which members of a campaign need no run: a register that is set before an instruction that does not use
 //! it may as well be set before the next one, and a register that is set again before it is read changes nothing.
 #![tactic(auto)]
 

@@ -15,7 +15,7 @@ pub enum Source {
     Base,
     /// It is the row of the member with the same kind of fault before the instruction before.
     Before,
-    /// It is that of its own run.
+    /// The member has to be run.
     Run,
 }
 

@@ -21,7 +21,7 @@ pub fn instrs_of<B: Bus>(
     cpu: &mut Cpu,
     bus: &mut B,
 ) -> Result<Items<Option<Instr>>, NoMemory>
-    ensures { IfOk result (λ instrs. instrs ≡ instrs_from 4096 (B.entries bus.old)
+    ensures { IfOk result (λ instrs. instrs ≡ instrs_from MOST_INSTRUCTIONS (B.entries bus.old)
         (machine_of cpu.old (B.words bus.old) (B.device bus.old)) []) }
 {
     let mut spare = SpareRooms::new(alloc);

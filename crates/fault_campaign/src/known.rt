@@ -37,7 +37,8 @@ pub fn nothing_known<'a>(base: &'a Row) -> Known<'a>
     }
 }
 
-/// Whether a member has to be run, since its row is not known from the base or from an earlier member.
+/// Whether a member has to be run, since its row is not known from the base or from an earlier member. No row depends
+/// on it: a member that is wrongly left out is run when the rows are put together.
 pub fn needs_run(known: &Known<'_>, members: &[Faults], index: usize) -> bool
     requires { index < length members.now }
 {

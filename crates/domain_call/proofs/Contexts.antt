@@ -15,6 +15,6 @@ context_at [] (suc context) = refl
 context_at (x ∷ contexts) zero = refl
 context_at (x ∷ contexts) (suc context) = context_at contexts context
 
--- equal arguments give an equal service
-pub checked_same : (reported : Result Service BadParam) (number a b x y : ℕ) (c k : Class) (es fs : List Entry) → reported ≡ checked number a b c es → a ≡ x → b ≡ y → c ≡ k → es ≡ fs → reported ≡ checked number x y k fs
-checked_same reported number a b x y c k es fs is first second class entries = rw (← first, ← second, ← class, ← entries) is
+-- of an equal class and equal entries the same service is requested
+pub checked_same : (reported : Result Service BadParam) (number first second : ℕ) (c k : Class) (es fs : List Entry) → reported ≡ checked number first second c es → c ≡ k → es ≡ fs → reported ≡ checked number first second k fs
+checked_same reported number first second c k es fs is class entries = rw (← class, ← entries) is

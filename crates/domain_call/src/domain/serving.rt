@@ -2,7 +2,7 @@
 
 ghost use Rattle.std.specs.Prelude.{◌≡◌, ◌<◌, ◌≤◌, true, IfOk};
 ghost use Rattle.part_defs.specs.Crossing.{without_shadow};
-ghost use Rattle.part_defs.specs.Domain.{first_argument, noted, result_set, second_argument};
+ghost use Rattle.part_defs.specs.Domain.{noted, result_set};
 ghost use Rattle.machine_defs.specs.Services.{checked};
 ghost use Rattle.param_wrappers.specs.Crossing.{can_serve};
 ghost use Rattle.domain_call.specs.DomainView.{served_in, with_served};
@@ -17,15 +17,13 @@ use nook_data::memory_map::{OBJECT_WORDS, object_start};
 use param_wrappers::check_service;
 
 impl Domain {
-    /// The service of a context's kernel call by its number, with r1 and r2 of the context as arguments. The error
-    /// names the first argument that fails; 0 is the service itself. The context is at most 16.
-    pub fn check(&self, context: u8, number: u32) -> Result<Service, BadParam>
-        requires { context < CONTEXTS }
-        ensures checked { result ≡ checked number (first_argument context self.now.state)
-            (second_argument context self.now.state) self.now.class self.now.state.entries }
+    /// The service of a kernel call by its number and its two arguments. The error names the first argument that
+    /// fails; 0 is the service itself.
+    pub fn check(&self, number: u32, first: Word, second: Word) -> Result<Service, BadParam>
+        ensures checked { result
+            ≡ checked number first second self.now.class self.now.state.entries }
         ensures can { IfOk result (λ service. can_serve service ≡ true) }
     {
-        let (first, second) = self.arguments(context);
         check_service(number, first, second, self.class, &self.tracker)
     }
 

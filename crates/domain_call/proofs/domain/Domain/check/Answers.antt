@@ -5,6 +5,6 @@ use Rattle.domain_call.proofs.domain.Domain.check.Goals as goal
 
 pub returns-clause-checked : goal.returns-clause-checked
 returns-clause-checked c =
-    checked_same _ c.args.number _ _ _ _ _ _ _ _ c.check_service.ensures.checked c.arguments-first.ensures.first c.arguments-first.ensures.second
+    checked_same _ c.args.number c.args.first c.args.second _ _ _ _ c.check_service.ensures.checked
     (ap (λ (s : DomainView). s.class) c.self.view_is)
     (ap (λ (s : DomainView). s.state.entries) c.self.view_is)

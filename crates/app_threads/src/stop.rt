@@ -8,7 +8,7 @@ use nook_data::desks::DeskRefused;
 use nook_data::memory::NoMemory;
 
 /// Why there is no table of receipts.
-#[derive(Clone, Copy, Debug, PartialEq, Eq)]
+#[derive(Clone, Copy)]
 pub enum WorkerStop {
     /// A desk refused the worker of this work. `part` is the desk's index, and `index` that of the operation in
     /// the thread's script, or of the frame in the part's arrivals.

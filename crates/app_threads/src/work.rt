@@ -12,7 +12,7 @@ use nook_data::scenario::ThreadSpecs;
 use std::alloc::Global;
 
 /// What a worker is to do.
-#[derive(Clone, Copy, Debug, PartialEq, Eq)]
+#[derive(Clone, Copy)]
 pub enum Work {
     /// The script of this thread.
     Script { thread: u8 },

@@ -5,7 +5,7 @@ use nook_data::lists::Words8;
 use nook_data::machine::Mnemonic;
 
 /// An error of an assembler text. The numbers that the program prints count from 1, in this order.
-#[derive(Clone, Copy, Debug, PartialEq, Eq)]
+#[derive(Clone, Copy, Debug)]
 pub enum AsmKind {
     /// A run of bytes that is no token.
     BadToken,

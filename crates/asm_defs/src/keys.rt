@@ -8,7 +8,7 @@ ghost use Rattle.asm_defs.specs.Keys.{entry_keys, index_among, key_text};
 use nook_data::classes::Class;
 
 /// A key of an object of the formats.
-#[derive(Clone, Copy, PartialEq, Eq)]
+#[derive(Clone, Copy)]
 pub enum Key {
     Address,
     After,

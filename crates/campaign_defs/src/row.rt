@@ -5,7 +5,7 @@ use nook_data::lists::Items;
 use nook_data::steps::FailCause;
 
 /// How a member's run compares with the base's, and what its struck part did.
-#[derive(Clone, Copy, Debug, PartialEq, Eq)]
+#[derive(Clone, Copy)]
 pub struct Detail {
     /// Whether each thread has the same answers as in the base's run.
     pub same_answers: bool,
@@ -18,7 +18,7 @@ pub struct Detail {
 }
 
 /// The row of a run.
-#[derive(Clone, Copy, Debug, PartialEq, Eq)]
+#[derive(Clone, Copy)]
 pub struct Row {
     pub counts: MemberRow,
     /// Present if the campaign asks for it.

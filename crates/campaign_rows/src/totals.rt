@@ -17,7 +17,7 @@ use run_results::{ReportStatus, add};
 use std::alloc::Global;
 
 /// The number of rows, the number of rows with each status, and the traps of all rows.
-#[derive(Clone, Copy, Debug, PartialEq, Eq)]
+#[derive(Clone, Copy)]
 pub struct CampaignCounts {
     pub members: u64,
     pub kept: u64,

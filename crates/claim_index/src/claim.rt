@@ -7,7 +7,7 @@ use nook_data::calls::Op;
 use nook_data::limits::BLOCK_WORDS;
 
 /// What a call claims. Of two calls with claims that conflict, the later waits for the earlier.
-#[derive(Clone, Copy, Debug, PartialEq, Eq)]
+#[derive(Clone, Copy)]
 pub enum Claimed {
     /// All of the part, as a Set does.
     Everything,
@@ -24,7 +24,7 @@ pub enum Claimed {
 }
 
 /// The claim of an open call, with the call's number.
-#[derive(Clone, Copy, Debug, PartialEq, Eq)]
+#[derive(Clone, Copy)]
 pub struct Claim {
     pub call: u32,
     pub on: Claimed,

@@ -4,7 +4,7 @@ ghost use Rattle.std.specs.Prelude.{◌≡◌, ℕ, ◌≤◌, [], ◌∷◌, co
 ghost use Rattle.command_forms.specs.Forms.{AskAlone, IsForm, IsNoForm, form_for, is_plain, within};
 
 /// What the program is asked to do.
-#[derive(Clone, Copy, Debug, PartialEq, Eq)]
+#[derive(Clone, Copy)]
 pub enum Form {
     /// `run`: read a scenario, simulate it, write the report.
     Run,
@@ -42,7 +42,7 @@ pub enum Form {
 }
 
 /// A subcommand that waits for a turn at a part. Its callers are threads, or the two sides of a mirror.
-#[derive(Clone, Copy, Debug, PartialEq, Eq)]
+#[derive(Clone, Copy)]
 pub enum WaitingForm {
     /// `run threads`.
     RunThreads,

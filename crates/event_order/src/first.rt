@@ -11,7 +11,7 @@ use nook_data::scenario::ThreadSpec;
 use std::alloc::Global;
 
 /// The first part with events left: its index, and how many events.
-#[derive(Clone, Copy, Debug, PartialEq, Eq)]
+#[derive(Clone, Copy)]
 pub struct FirstLeft {
     pub part: usize,
     pub count: usize,

@@ -12,7 +12,7 @@ use nook_data::memory::NoMemory;
 use std::alloc::Global;
 
 /// A member's row with its index.
-#[derive(Clone, Copy, Debug, PartialEq, Eq)]
+#[derive(Clone, Copy)]
 pub struct NumberedRow {
     pub index: usize,
     pub row: Row,

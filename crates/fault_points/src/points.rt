@@ -17,7 +17,7 @@ use std::alloc::Global;
 
 /// A burst of a part's run: its number from 1, and the number of its instructions, from the first on, before which one
 /// more fault strikes.
-#[derive(Clone, Copy, Debug, PartialEq, Eq)]
+#[derive(Clone, Copy)]
 pub struct BurstPoints {
     pub burst: u32,
     pub points: u32,

@@ -30,7 +30,7 @@ pub enum InputFault {
 }
 
 /// A step from an object or a list to something inside it. Indexes count from 0.
-#[derive(Clone, Copy, PartialEq, Eq)]
+#[derive(Clone, Copy)]
 pub enum PathStep {
     At(Key),
     Position(u32),

@@ -3,7 +3,7 @@
 use nook_data::memory::NoMemory;
 
 /// Why an audit stops before the end of a report.
-#[derive(Clone, Copy, Debug, PartialEq, Eq)]
+#[derive(Clone, Copy)]
 pub enum Stop {
     /// This line, counted from 1, does not fit or is missing.
     Unfit { line: u64 },

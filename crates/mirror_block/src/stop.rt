@@ -1,7 +1,7 @@
 //! Why a mirror stops.
 
 /// Why a mirror has no answer. After either of the first two it answers nothing more.
-#[derive(Clone, Copy, Debug, PartialEq, Eq)]
+#[derive(Clone, Copy)]
 pub enum MirrorStop {
     /// Memory ran out: at the desk of this side, 0 or 1, or, without a side, for the mirror's own copy of the words.
     NoMemory { side: Option<u8> },

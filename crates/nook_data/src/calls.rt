@@ -7,7 +7,7 @@ use crate::lists::{Items, Words};
 use crate::steps::Stage;
 
 /// What an application asks of a part.
-#[derive(Debug, PartialEq, Eq, Drop)]
+#[derive(PartialEq, Eq, Drop)]
 pub enum Op {
     /// Reads `count` blocks (1 to 8), starting at block `first`.
     Read { first: u32, count: u32 },
@@ -30,7 +30,7 @@ pub enum Op {
 }
 
 /// The names of the operations.
-#[derive(Clone, Copy, Debug, PartialEq, Eq)]
+#[derive(Clone, Copy)]
 pub enum OpName {
     Read,
     Write,
@@ -102,7 +102,7 @@ pub fn op_named(word: &str) -> Option<OpName>
 }
 
 /// The answer that an application gets.
-#[derive(Debug, PartialEq, Eq, Drop)]
+#[derive(Drop)]
 pub enum Answer {
     Done,
     Blocks(Words),

@@ -13,7 +13,7 @@ pub struct Campaign {
 }
 
 /// What a campaign reports of its run with one fault: the status of the run, and sums over all its parts and threads.
-#[derive(Clone, Copy, Debug, PartialEq, Eq)]
+#[derive(Clone, Copy)]
 pub struct MemberRow {
     /// 7 if a part broke its contract, else 1 if a part was given up, else 0.
     pub status: u32,

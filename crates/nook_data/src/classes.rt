@@ -8,7 +8,7 @@ use crate::calls::Answer;
 use crate::steps::FailCause;
 
 /// The class of a driver and its device.
-#[derive(Clone, Copy, Debug, PartialEq, Eq)]
+#[derive(Clone, Copy)]
 pub enum Class {
     Block,
     Net,
@@ -27,7 +27,7 @@ pub fn class_code(class: Class) -> u32
 }
 
 /// What becomes of a held call at its Enter.
-#[derive(Debug, PartialEq, Eq, Drop)]
+#[derive(Drop)]
 pub enum Admit {
     /// It is answered at once.
     Reply(Answer),
@@ -38,7 +38,7 @@ pub enum Admit {
 }
 
 /// What becomes of a call when its driver replies.
-#[derive(Clone, Copy, Debug, PartialEq, Eq)]
+#[derive(Clone, Copy)]
 pub enum Accept {
     /// The reply is accepted, and the call is answered.
     Take,

@@ -4,7 +4,7 @@ ghost use Rattle.std.specs.Prelude.{◌≡◌};
 ghost use Rattle.nook_data.specs.Clauses.{clause_number};
 
 /// A clause of the contract of a class, named by what breaks it.
-#[derive(Clone, Copy, Debug, PartialEq, Eq)]
+#[derive(Clone, Copy)]
 pub enum Clause {
     /// A block is stored that no Write that is Inside covers.
     UnaskedStore,

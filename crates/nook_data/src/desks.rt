@@ -4,7 +4,7 @@ use crate::calls::Answer;
 use crate::lists::Items;
 
 /// A call that was answered, and the numbers of the events that invoke and answer it.
-#[derive(Debug, Drop, PartialEq)]
+#[derive(Drop)]
 pub struct Receipt {
     pub call: u32,
     pub at_invoke: u64,
@@ -13,7 +13,7 @@ pub struct Receipt {
 }
 
 /// Why a desk refused.
-#[derive(Clone, Copy, Debug, PartialEq, Eq)]
+#[derive(Clone, Copy)]
 pub enum DeskRefused {
     /// If a call is named, it was invoked and is open.
     NoMemory { call: Option<u32> },

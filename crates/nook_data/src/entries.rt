@@ -3,7 +3,7 @@
 use crate::lists::Items;
 
 /// One resource that a driver holds, as the tracker records it.
-#[derive(Clone, Copy, Debug, PartialEq, Eq)]
+#[derive(Clone, Copy, PartialEq, Eq)]
 pub enum Entry {
     /// Heap words.
     Heap { start: u32, len: u32 },

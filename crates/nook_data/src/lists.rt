@@ -12,7 +12,7 @@ use std::marker::Model;
 use std::slice;
 
 /// A list of items in order.
-#[derive(Debug, Drop)]
+#[derive(Drop)]
 pub struct Items<T> {
     items: Vec<T>,
 }

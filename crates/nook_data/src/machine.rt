@@ -3,7 +3,7 @@
 use crate::lists::{Items, Word, Words};
 
 /// What a driver did with its device.
-#[derive(Debug, PartialEq, Eq, Drop)]
+#[derive(Drop)]
 pub enum Act {
     Load { block: u32 },
     Store { block: u32, words: Words },
@@ -16,7 +16,7 @@ pub enum Act {
 }
 
 /// Why the machine stopped a driver.
-#[derive(Clone, Copy, Debug, PartialEq, Eq)]
+#[derive(Clone, Copy)]
 pub enum TrapCause {
     BadOpcode,
     BadFetch,
@@ -93,7 +93,7 @@ pub struct Cpu {
 }
 
 /// How a burst ends.
-#[derive(Clone, Copy, Debug, PartialEq, Eq)]
+#[derive(Clone, Copy)]
 pub enum BurstEnd {
     /// The driver calls a kernel service.
     Kcall { service: u32 },

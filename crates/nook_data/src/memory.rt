@@ -6,7 +6,7 @@ use std::alloc::{AllocError, AllocFailed, Global};
 use std::marker::Model;
 
 /// An allocation was refused. What the failed call borrowed is unchanged.
-#[derive(Clone, Copy, Debug, PartialEq, Eq)]
+#[derive(Clone, Copy, Debug)]
 pub struct NoMemory;
 
 impl From<AllocError> for NoMemory {

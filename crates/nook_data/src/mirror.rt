@@ -3,7 +3,7 @@
 use crate::lists::{Items, Words};
 
 /// An answer of a mirror of two disks.
-#[derive(Debug, Drop, PartialEq)]
+#[derive(Drop)]
 pub enum MirrorAnswer {
     Done,
     Blocks(Words),

@@ -25,7 +25,7 @@ pub enum FaultKind {
 }
 
 /// The names of the kinds of fault.
-#[derive(Clone, Copy, Debug, PartialEq, Eq)]
+#[derive(Clone, Copy)]
 pub enum FaultName {
     Trap,
     Hang,

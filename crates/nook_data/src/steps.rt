@@ -6,7 +6,7 @@ use crate::lists::Words;
 use crate::machine::{Acts, TrapCause};
 
 /// A stage of the boot or of a recovery.
-#[derive(Clone, Copy, Debug, PartialEq, Eq)]
+#[derive(Clone, Copy, PartialEq, Eq)]
 pub enum Stage {
     /// Every context ends, and open calls are answered or held.
     Stop,
@@ -40,7 +40,7 @@ pub enum Mode {
 }
 
 /// Why a driver failed.
-#[derive(Clone, Copy, Debug, PartialEq, Eq)]
+#[derive(Clone, Copy)]
 pub enum FailCause {
     Trap(TrapCause),
     /// A kernel call whose argument is invalid; 0 is the service itself.
@@ -52,7 +52,7 @@ pub enum FailCause {
 }
 
 /// The crossing at the end of a burst, as an event shows it.
-#[derive(Debug, PartialEq, Eq, Drop)]
+#[derive(Drop)]
 pub enum End {
     /// A kernel call; it has no result if it was not served. `moved` has the words that it moved.
     Service {
@@ -80,7 +80,7 @@ pub enum Step {
 }
 
 /// What one step did. Calls and bursts are numbered from 1.
-#[derive(Debug, PartialEq, Eq, Drop)]
+#[derive(Drop)]
 pub enum Event {
     Invoke {
         call: u32,

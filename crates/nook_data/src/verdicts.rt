@@ -1,14 +1,14 @@
 //! Verdicts on a journal, and counts of it.
 
 /// The first event that breaks a clause of the class's contract, and the clause.
-#[derive(Clone, Copy, Debug, PartialEq, Eq)]
+#[derive(Clone, Copy)]
 pub struct Break {
     pub event: u64,
     pub clause: u8,
 }
 
 /// What was lost, and where frames went.
-#[derive(Clone, Copy, Debug, PartialEq, Eq)]
+#[derive(Clone, Copy)]
 pub struct Losses {
     pub sends: u64,
     pub samples: u64,

@@ -13,7 +13,7 @@ ghost use Rattle.nook_io.specs.Listening.{Listening, heard};
 use nook_data::steps::Event;
 
 /// A read or a write failed.
-#[derive(Clone, Copy, Debug, PartialEq, Eq)]
+#[derive(Clone, Copy)]
 pub struct Failed;
 
 /// Where input comes from.

@@ -9,7 +9,7 @@ use nook_data::memory::NoMemory;
 use std::alloc::{AllocError, Global};
 
 /// Why a source was not read to its end.
-#[derive(Clone, Copy, Debug)]
+#[derive(Clone, Copy)]
 pub enum ReadStop {
     /// It holds more bytes than the limit.
     TooLong,

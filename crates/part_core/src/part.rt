@@ -31,13 +31,13 @@ use std::alloc::Global;
 use std::marker::Model;
 
 /// The number of the event that a step made, from 1.
-#[derive(Clone, Copy, Debug, PartialEq, Eq)]
+#[derive(Clone, Copy, PartialEq, Eq)]
 pub struct StepDone {
     pub number: u64,
 }
 
 /// Why a step was not taken. The part is unchanged.
-#[derive(Clone, Copy, Debug, PartialEq, Eq)]
+#[derive(Clone, Copy, PartialEq, Eq)]
 pub enum StepRefused {
     /// The step may not be taken now.
     NotEnabled,

@@ -9,7 +9,7 @@ use nook_data::machine::Instr;
 use nook_data::scenario::FaultKind;
 
 /// Where a member's row comes from.
-#[derive(Clone, Copy, Debug, PartialEq, Eq)]
+#[derive(Clone, Copy)]
 pub enum Source {
     /// It is the base's row.
     Base,

@@ -8,7 +8,7 @@ use driver_isa::instructions::{fields_of, row_of};
 use nook_data::machine::{Form, Instr};
 
 /// What an instruction does with a register.
-#[derive(Clone, Copy, Debug, PartialEq, Eq)]
+#[derive(Clone, Copy)]
 pub enum Use {
     /// It neither reads nor sets it.
     Keeps,

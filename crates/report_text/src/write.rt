@@ -21,7 +21,7 @@ use nook_io::whole::write_all;
 use std::alloc::Global;
 
 /// Why a text was not written completely. The sink has received a prefix of it.
-#[derive(Clone, Copy, Debug, PartialEq, Eq)]
+#[derive(Clone, Copy, PartialEq, Eq)]
 pub enum WriteStop {
     /// The sink failed.
     Fault,

@@ -4,7 +4,7 @@ ghost use Rattle.std.specs.Prelude.{◌≡◌, IfSome, IsSome, if◌then◌else�
 ghost use Rattle.run_results.specs.Statuses.{status_number};
 
 /// What the last line of a report says about the run's parts.
-#[derive(Clone, Copy, Debug, PartialEq, Eq)]
+#[derive(Clone, Copy)]
 pub enum ReportStatus {
     /// Every part's driver kept its class contract, and no part was given up.
     Kept,

@@ -3,7 +3,7 @@
 use nook_data::calls::Answer;
 
 /// What the shadow does with an operation instead of the driver.
-#[derive(Debug, PartialEq, Eq, Drop)]
+#[derive(Drop)]
 pub enum Proxy {
     /// It is answered.
     Answer(Answer),

@@ -102,7 +102,7 @@ pub fn op_named(word: &str) -> Option<OpName>
 }
 
 /// The answer that an application gets.
-#[derive(Drop)]
+#[derive(PartialEq, Eq, Drop)]
 pub enum Answer {
     Done,
     Blocks(Words),

@@ -3,7 +3,7 @@
 use crate::lists::{Items, Word, Words};
 
 /// What a driver did with its device.
-#[derive(Drop)]
+#[derive(PartialEq, Eq, Drop)]
 pub enum Act {
     Load { block: u32 },
     Store { block: u32, words: Words },

@@ -8,7 +8,7 @@ use crate::entries::Entry;
 use crate::lists::{Items, Word};
 use crate::machine::{Act, Context, Cpu};
 use crate::name::Name;
-use crate::scenario::{BadBlock, Fault, Image, PartSpec};
+use crate::scenario::{BadBlock, Fault, FaultKind, Image, PartSpec};
 use crate::steps::{Mode, Stage};
 
 /// A comparison of whole values.
@@ -81,59 +81,13 @@ impl Same for Name {
 
 impl Same for Op {
     fn is_same(&self, other: &Op) -> bool {
-        match (self, other) {
-            (
-                Op::Read { first, count },
-                Op::Read {
-                    first: block,
-                    count: blocks,
-                },
-            ) => { first == block && count == blocks }
-            (
-                Op::Write { first, words },
-                Op::Write {
-                    first: block,
-                    words: others,
-                },
-            ) => { first == block && words.is_same(others) }
-            (Op::Send { frame }, Op::Send { frame: other }) => frame.is_same(other),
-            (Op::Recv, Op::Recv) => true,
-            (Op::Open, Op::Open) => true,
-            (Op::Play { samples }, Op::Play { samples: others }) => samples.is_same(others),
-            (Op::Close, Op::Close) => true,
-            (Op::Get { key }, Op::Get { key: other }) => key == other,
-            (
-                Op::Set { key, value },
-                Op::Set {
-                    key: other,
-                    value: word,
-                },
-            ) => { key == other && value == word }
-            _ => false,
-        }
+        self == other
     }
 }
 
 impl Same for Answer {
     fn is_same(&self, other: &Answer) -> bool {
-        match (self, other) {
-            (Answer::Done, Answer::Done) => true,
-            (Answer::Blocks(words), Answer::Blocks(others)) => words.is_same(others),
-            (Answer::Value(value), Answer::Value(other)) => value == other,
-            (Answer::Frame(frame), Answer::Frame(other)) => frame.is_same(other),
-            (Answer::Empty, Answer::Empty) => true,
-            (Answer::Busy { stage }, Answer::Busy { stage: other }) => stage.is_same(other),
-            (Answer::InUse { holder }, Answer::InUse { holder: other }) => holder == other,
-            (Answer::NotOpen, Answer::NotOpen) => true,
-            (Answer::BadRange, Answer::BadRange) => true,
-            (Answer::BadLength, Answer::BadLength) => true,
-            (Answer::BadKey, Answer::BadKey) => true,
-            (Answer::BadValue, Answer::BadValue) => true,
-            (Answer::BadClass, Answer::BadClass) => true,
-            (Answer::IoError { block }, Answer::IoError { block: other }) => block == other,
-            (Answer::Gone { failures }, Answer::Gone { failures: other }) => failures == other,
-            _ => false,
-        }
+        self == other
     }
 }
 
@@ -149,45 +103,7 @@ impl Same for CallEntry {
 
 impl Same for Act {
     fn is_same(&self, other: &Act) -> bool {
-        match (self, other) {
-            (Act::Load { block }, Act::Load { block: other }) => block == other,
-            (
-                Act::Store { block, words },
-                Act::Store {
-                    block: other,
-                    words: others,
-                },
-            ) => { block == other && words.is_same(others) }
-            (
-                Act::Failed { block, store },
-                Act::Failed {
-                    block: other,
-                    store: stored,
-                },
-            ) => { block == other && store == stored }
-            (Act::Sent { frame }, Act::Sent { frame: other }) => frame.is_same(other),
-            (Act::Popped { frame }, Act::Popped { frame: other }) => frame.is_same(other),
-            (
-                Act::Played {
-                    sample,
-                    rate,
-                    volume,
-                },
-                Act::Played {
-                    sample: other,
-                    rate: speed,
-                    volume: loudness,
-                },
-            ) => { sample == other && rate == speed && volume == loudness }
-            (
-                Act::Register { key, value },
-                Act::Register {
-                    key: other,
-                    value: word,
-                },
-            ) => { key == other && value == word }
-            _ => false,
-        }
+        self == other
     }
 }
 
@@ -205,71 +121,31 @@ impl Same for Context {
 
 impl Same for Stage {
     fn is_same(&self, other: &Stage) -> bool {
-        match (self, other) {
-            (Stage::Stop, Stage::Stop) => true,
-            (Stage::Collect, Stage::Collect) => true,
-            (Stage::Reset, Stage::Reset) => true,
-            (Stage::Load, Stage::Load) => true,
-            (Stage::Init, Stage::Init) => true,
-            (
-                Stage::ReplaySet { key, value },
-                Stage::ReplaySet {
-                    key: other,
-                    value: word,
-                },
-            ) => { key == other && value == word }
-            (Stage::ReplayOpen, Stage::ReplayOpen) => true,
-            (Stage::Resume, Stage::Resume) => true,
-            _ => false,
-        }
+        self == other
     }
 }
 
 impl Same for Mode {
     fn is_same(&self, other: &Mode) -> bool {
-        match (self, other) {
-            (Mode::Boot { stage }, Mode::Boot { stage: other }) => stage.is_same(other),
-            (Mode::Running, Mode::Running) => true,
-            (Mode::Recovering { stage }, Mode::Recovering { stage: other }) => stage.is_same(other),
-            (Mode::Dead { collected }, Mode::Dead { collected: other }) => collected == other,
-            _ => false,
-        }
+        self == other
     }
 }
 
 impl Same for Entry {
     fn is_same(&self, other: &Entry) -> bool {
-        match (self, other) {
-            (
-                Entry::Heap { start, len },
-                Entry::Heap {
-                    start: other,
-                    len: words,
-                },
-            ) => { start == other && len == words }
-            (
-                Entry::Borrow { object, start },
-                Entry::Borrow {
-                    object: other,
-                    start: at,
-                },
-            ) => { object == other && start == at }
-            (
-                Entry::Buffer { context, writable },
-                Entry::Buffer {
-                    context: other,
-                    writable: lent,
-                },
-            ) => { context == other && writable == lent }
-            (Entry::Registration { live }, Entry::Registration { live: other }) => live == other,
-            _ => false,
-        }
+        self == other
     }
 }
 
 impl Same for BadBlock {
     fn is_same(&self, other: &BadBlock) -> bool {
         self.block == other.block && self.after == other.after
+    }
+}
+
+impl Same for FaultKind {
+    fn is_same(&self, other: &FaultKind) -> bool {
+        self == other
     }
 }
 

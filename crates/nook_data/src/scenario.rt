@@ -7,10 +7,9 @@ use crate::calls::PartOps;
 use crate::classes::Class;
 use crate::lists::{Frames, Items, Picks, Words};
 use crate::name::Name;
-use crate::same::Same;
 
 /// What an injected fault does.
-#[derive(Clone, Copy)]
+#[derive(Clone, Copy, PartialEq, Eq)]
 pub enum FaultKind {
     /// The burst ends with the trap Injected.
     Trap,
@@ -78,37 +77,6 @@ pub fn fault_named(word: &str) -> Option<FaultName>
         }
     }
     None
-}
-
-impl Same for FaultKind {
-    fn is_same(&self, other: &FaultKind) -> bool {
-        match (self, other) {
-            (FaultKind::Trap, FaultKind::Trap) => true,
-            (FaultKind::Hang, FaultKind::Hang) => true,
-            (
-                FaultKind::Poke { address, value },
-                FaultKind::Poke {
-                    address: other,
-                    value: word,
-                },
-            ) => { address == other && value == word }
-            (
-                FaultKind::Code { address, value },
-                FaultKind::Code {
-                    address: other,
-                    value: word,
-                },
-            ) => { address == other && value == word }
-            (
-                FaultKind::Reg { register, value },
-                FaultKind::Reg {
-                    register: other,
-                    value: word,
-                },
-            ) => { register == other && value == word }
-            _ => false,
-        }
-    }
 }
 
 /// A fault that strikes in burst `burst`, before its instruction number `after + 1`.

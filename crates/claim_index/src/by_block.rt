@@ -10,9 +10,15 @@ use std::alloc::Global;
 
 /// For each block, by its number, the numbers of the calls that claim it, in the order in which they came. Blocks past
 /// the end are claimed by none.
-#[derive(Drop)]
 pub struct ByBlock {
     numbers: Vec<Vec<u32>>,
+}
+
+impl Drop for ByBlock {
+    /// Written by hand, so that it is proved once and not in each function that owns blocks.
+    fn drop(self) {
+        let ByBlock { numbers: _ } = self;
+    }
 }
 
 impl ByBlock {

@@ -13,13 +13,25 @@ use nook_data::memory::NoMemory;
 use std::alloc::Global;
 
 /// The numbers of the open calls by what they claim.
-#[derive(Drop)]
 pub struct Claimants {
     everything: Vec<u32>,
     readers: ByBlock,
     writers: ByBlock,
     frames: Vec<u32>,
     stream: Vec<u32>,
+}
+
+impl Drop for Claimants {
+    /// Written by hand, so that it is proved once and not in each function that owns claimants.
+    fn drop(self) {
+        let Claimants {
+            everything: _,
+            readers: _,
+            writers: _,
+            frames: _,
+            stream: _,
+        } = self;
+    }
 }
 
 impl Claimants {

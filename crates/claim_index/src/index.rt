@@ -16,7 +16,6 @@ use std::alloc::Global;
 use std::marker::Model;
 
 /// The claims of the open calls. Contracts see them as a list by rising number.
-#[derive(Drop)]
 pub struct ClaimIndex {
     open: Vec<Claim>,
     claimants: Claimants,
@@ -35,6 +34,17 @@ impl Model for ClaimIndex {
 
     ghost invariant = { λ s. AreRising 0 s.open.items × HaveBlocks s.open.items
         × AreClaimantsOf s.open.items s.claimants };
+}
+
+impl Drop for ClaimIndex {
+    /// Written by hand, so that it is proved once and not in each function that owns claims.
+    fn drop(self) {
+        let ClaimIndex {
+            open: _,
+            claimants: _,
+            alloc: _,
+        } = self;
+    }
 }
 
 impl ClaimIndex {

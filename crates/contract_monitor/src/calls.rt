@@ -17,7 +17,6 @@ use std::collections::VecDeque;
 
 /// An open call. `played` counts its samples that were played while it was the first Play Inside, and
 /// `own_played` those that were played in its own bursts.
-#[derive(Drop)]
 pub struct Call {
     pub number: u32,
     pub op: Op,
@@ -27,6 +26,22 @@ pub struct Call {
     pub own_played: u64,
     pub handed: bool,
     pub failed: VecDeque<u32>,
+}
+
+impl Drop for Call {
+    /// Written by hand, so that it is proved once and not in each function that owns a call.
+    fn drop(self) {
+        let Call {
+            number: _,
+            op: _,
+            inside: _,
+            sent: _,
+            played: _,
+            own_played: _,
+            handed: _,
+            failed: _,
+        } = self;
+    }
 }
 
 impl Call {

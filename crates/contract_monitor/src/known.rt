@@ -44,7 +44,6 @@ pub struct LossCounts {
 /// The medium, ring and registers after the events, the frames popped since the last Load and not handed up, the open
 /// calls, and the counts. Contracts see what is kept of the state that the definitions of the contract and of the
 /// losses describe.
-#[derive(Drop)]
 pub struct Known {
     pub alloc: Global,
     pub class: Class,
@@ -96,6 +95,23 @@ impl Model for Known {
         };
       };
     } };
+}
+
+impl Drop for Known {
+    /// Written by hand, so that it is proved once and not in each function that owns a value.
+    fn drop(self) {
+        let Known {
+            alloc: _,
+            class: _,
+            medium: _,
+            ring: _,
+            registers: _,
+            pending: _,
+            calls: _,
+            replay: _,
+            effects: _,
+        } = self;
+    }
 }
 
 impl Known {

@@ -28,7 +28,6 @@ use std::mem;
 
 /// Judges a part's driver and counts what was lost, event by event. It stores no event. Contracts see what it knows by
 /// the definitions of the contract and of the losses; `Represents` says which lists of events it represents.
-#[derive(Drop)]
 pub struct Monitor {
     known: Known,
     /// An equal copy of `known` on which to try the next event; none if it has to be copied again.
@@ -46,6 +45,18 @@ impl Model for Monitor {
     ghost view = { λ s. record { kept = s.known; seen = s.seen; broken = s.broken } };
 
     ghost invariant = { λ s. IfSome s.spare (λ same. same ≡ s.known) };
+}
+
+impl Drop for Monitor {
+    /// Written by hand, so that it is proved once and not in each function that owns a monitor.
+    fn drop(self) {
+        let Monitor {
+            known: _,
+            spare: _,
+            seen: _,
+            broken: _,
+        } = self;
+    }
 }
 
 impl Monitor {

@@ -29,7 +29,6 @@ const FIRST_REGISTER: u32 = 8;
 const LAST_REGISTER: u32 = 11;
 
 /// A device, as its driver's machine reaches it.
-#[derive(Drop)]
 pub struct Device {
     state: DeviceState,
 }
@@ -43,6 +42,13 @@ impl Model for Device {
     ghost view = { λ s. s.state };
 
     ghost invariant = { λ s. IsKept s.state.kind };
+}
+
+impl Drop for Device {
+    /// Written by hand, so that it is proved once and not in each function that owns a device.
+    fn drop(self) {
+        let Device { state: _ } = self;
+    }
 }
 
 impl Device {

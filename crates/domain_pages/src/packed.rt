@@ -19,7 +19,6 @@ const PAGE_LEN: usize = PAGE_WORDS as usize;
 const OBJECTS_LEN: usize = (OBJECT_WORDS * OBJECTS) as usize;
 
 /// A page map that keeps only the words of pages that have a frame. Contracts see the same as for a `PageMap`.
-#[derive(Drop)]
 pub struct PackedPages {
     /// The text, without the zeros at its end.
     pub(crate) text: Words,
@@ -46,6 +45,19 @@ impl Model for PackedPages {
     } };
 
     ghost invariant = { λ s. IsPacked s.table s.words s.text s.initial };
+}
+
+impl Drop for PackedPages {
+    /// Written by hand, so that it is proved once and not in each function that owns packed pages.
+    fn drop(self) {
+        let PackedPages {
+            text: _,
+            initial: _,
+            table: _,
+            words: _,
+            lent: _,
+        } = self;
+    }
 }
 
 impl PackedPages {

@@ -10,7 +10,6 @@ use std::alloc::Global;
 use std::marker::Model;
 
 /// The faults of a part by burst and then by `after`; those with the same `after` in the order given.
-#[derive(Drop)]
 pub struct FaultScript {
     faults: Vec<Fault>,
 }
@@ -25,6 +24,13 @@ impl Model for FaultScript {
     ghost view = { λ s. s.faults.items };
 
     ghost invariant = { λ s. IsOrdered s.faults.items };
+}
+
+impl Drop for FaultScript {
+    /// Written by hand, so that it is proved once and not in each function that owns a script.
+    fn drop(self) {
+        let FaultScript { faults: _ } = self;
+    }
 }
 
 impl FaultScript {

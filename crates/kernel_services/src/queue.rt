@@ -16,7 +16,6 @@ use std::collections::VecDeque;
 use std::marker::Model;
 
 /// The frames that were handed up and wait, the oldest first; at most 64. Contracts see the list.
-#[derive(Drop)]
 pub struct RxQueue {
     frames: VecDeque<Words>,
 }
@@ -31,6 +30,13 @@ impl Model for RxQueue {
     ghost view = { λ s. s.frames.items };
 
     ghost invariant = { λ s. MOST_QUEUED_FRAMES ≤ deque_capacity s.frames };
+}
+
+impl Drop for RxQueue {
+    /// Written by hand, so that it is proved once and not in each function that owns a queue.
+    fn drop(self) {
+        let RxQueue { frames: _ } = self;
+    }
 }
 
 impl RxQueue {

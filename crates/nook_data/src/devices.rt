@@ -6,7 +6,6 @@ use crate::ring::Ring;
 use crate::scenario::BadBlocks;
 
 /// The state of a disk apart from its registers. `counts` has each block's number of commands.
-#[derive(Drop)]
 pub struct Disk {
     pub medium: Items<[u32; BLOCK_WORDS]>,
     pub bad: BadBlocks,
@@ -17,14 +16,41 @@ pub struct Disk {
     pub status: u32,
 }
 
+impl Drop for Disk {
+    /// Written by hand, so that it is proved once and not in each function that owns a disk.
+    fn drop(self) {
+        let Disk {
+            medium: _,
+            bad: _,
+            counts: _,
+            block: _,
+            buffer: _,
+            position: _,
+            status: _,
+        } = self;
+    }
+}
+
 /// The state of a net device apart from its registers. The ring holds at most 16 frames.
-#[derive(Drop)]
 pub struct Link {
     pub length: u32,
     pub buffer: [u32; MOST_FRAME_WORDS],
     pub position: u32,
     pub ring: Ring,
     pub reading: u32,
+}
+
+impl Drop for Link {
+    /// Written by hand, so that it is proved once and not in each function that owns a link.
+    fn drop(self) {
+        let Link {
+            length: _,
+            buffer: _,
+            position: _,
+            ring: _,
+            reading: _,
+        } = self;
+    }
 }
 
 /// The state of a device apart from its registers.
@@ -36,8 +62,17 @@ pub enum DeviceKind {
 }
 
 /// A device: its four configuration registers, and the state of its kind.
-#[derive(Drop)]
 pub struct DeviceState {
     pub registers: [u32; 4],
     pub kind: DeviceKind,
+}
+
+impl Drop for DeviceState {
+    /// Written by hand, so that it is proved once and not in each function that owns a state.
+    fn drop(self) {
+        let DeviceState {
+            registers: _,
+            kind: _,
+        } = self;
+    }
 }

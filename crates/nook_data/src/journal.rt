@@ -12,7 +12,6 @@ use std::marker::Model;
 use std::mem;
 
 /// The events of a part in order, and spare room for more. Contracts see the list and the spare.
-#[derive(Drop)]
 pub struct Journal {
     events: Vec<Event>,
 }
@@ -28,6 +27,13 @@ impl Model for Journal {
       list = s.events.items;
       spare = vec_capacity s.events - vec_len s.events;
     } };
+}
+
+impl Drop for Journal {
+    /// Written by hand, so that it is proved once and not in each function that owns a journal.
+    fn drop(self) {
+        let Journal { events: _ } = self;
+    }
 }
 
 impl Journal {
@@ -46,16 +52,6 @@ impl Journal {
         ensures room { OnOk result (1 ≤ self.new.spare) }
     {
         self.events.reserve(1)?;
-        Ok(())
-    }
-
-    /// Appends an event, and allocates room for it if none is spare. After `NoMemory` the events are unchanged.
-    pub fn push(&mut self, event: Event) -> Result<(), NoMemory>
-        ensures ok { OnOk result (self.new.list ≡ self.old.list ++ event ∷ []) }
-        ensures err { OnErr result (self.new.list ≡ self.old.list) }
-    {
-        self.reserve()?;
-        self.push_reserved(event);
         Ok(())
     }
 
@@ -201,7 +197,6 @@ impl ActLog {
 
 /// Memory for acts and rooms for their words. The bursts of a part share it: a burst allocates again what the previous
 /// one used up. Contracts see the number of rooms.
-#[derive(Drop)]
 pub struct SpareRooms {
     alloc: Global,
     /// An empty list: the memory for the acts of the next burst.
@@ -219,6 +214,17 @@ impl Model for SpareRooms {
 
     ghost invariant = { λ s. (s.acts.items ≡ [])
         × All (λ room. MOST_FRAME_WORDS ≤ room) s.rooms.items };
+}
+
+impl Drop for SpareRooms {
+    /// Written by hand, so that it is proved once and not in each function that owns spare rooms.
+    fn drop(self) {
+        let SpareRooms {
+            alloc: _,
+            acts: _,
+            rooms: _,
+        } = self;
+    }
 }
 
 impl SpareRooms {

@@ -88,12 +88,23 @@ pub struct Fault {
 }
 
 /// A driver program: the entries of its class in the class's order, text words and initial words.
-#[derive(Drop)]
 pub struct Image {
     pub class: Class,
     pub entries: Words,
     pub text: Words,
     pub initial: Words,
+}
+
+impl Drop for Image {
+    /// Written by hand, so that it is proved once and not in each function that owns an image.
+    fn drop(self) {
+        let Image {
+            class: _,
+            entries: _,
+            text: _,
+            initial: _,
+        } = self;
+    }
 }
 
 /// Commands on `block` fail from its command number `after + 1` on.
@@ -105,7 +116,6 @@ pub struct BadBlock {
 
 /// A part as a scenario describes it. `blocks` is 0 and `bad` is empty for classes other than block; `arrivals`
 /// is empty for classes other than net.
-#[derive(Drop)]
 pub struct PartSpec {
     pub name: Name,
     pub class: Class,
@@ -117,11 +127,33 @@ pub struct PartSpec {
     pub arrivals: Frames,
 }
 
+impl Drop for PartSpec {
+    /// Written by hand, so that it is proved once and not in each function that owns a part.
+    fn drop(self) {
+        let PartSpec {
+            name: _,
+            class: _,
+            blocks: _,
+            bad: _,
+            limit: _,
+            image: _,
+            faults: _,
+            arrivals: _,
+        } = self;
+    }
+}
+
 /// An application thread and its script, a list of pairs of a part and an operation.
-#[derive(Drop)]
 pub struct ThreadSpec {
     pub name: Name,
     pub ops: PartOps,
+}
+
+impl Drop for ThreadSpec {
+    /// Written by hand, so that it is proved once and not in each function that owns a thread.
+    fn drop(self) {
+        let ThreadSpec { name: _, ops: _ } = self;
+    }
 }
 
 /// The order in which the actors of a run take their steps.
@@ -133,11 +165,21 @@ pub enum ScheduleSpec {
 }
 
 /// Everything that determines a run.
-#[derive(Drop)]
 pub struct Scenario {
     pub schedule: ScheduleSpec,
     pub parts: Parts,
     pub threads: ThreadSpecs,
+}
+
+impl Drop for Scenario {
+    /// Written by hand, so that it is proved once and not in each function that owns a scenario.
+    fn drop(self) {
+        let Scenario {
+            schedule: _,
+            parts: _,
+            threads: _,
+        } = self;
+    }
 }
 
 /// A list of faults.

@@ -13,7 +13,6 @@ use std::marker::Model;
 const MOST_ENTRIES: usize = 82;
 
 /// Entries in order, each under a key of a slab. Contracts see the list.
-#[derive(Drop)]
 pub struct Ordered {
     slab: Slab<Entry>,
     keys: Vec<usize>,
@@ -30,6 +29,13 @@ impl Model for Ordered {
     ghost view = { λ s. map (entry_at s.slab) s.keys.items };
 
     ghost invariant = { λ s. IsOrdered s.slab s.keys.items (vec_capacity s.keys) };
+}
+
+impl Drop for Ordered {
+    /// Written by hand, so that it is proved once and not in each function that owns entries.
+    fn drop(self) {
+        let Ordered { slab: _, keys: _ } = self;
+    }
 }
 
 impl Ordered {

@@ -22,7 +22,6 @@ use std::marker::Model;
 
 /// What a driver holds. Contracts see where the heap begins, and the entries in Collect's order: heap by start,
 /// copies by object, buffers by context, the registration last.
-#[derive(Drop)]
 pub struct Tracker {
     alloc: Global,
     heap_start: u32,
@@ -38,6 +37,17 @@ impl Model for Tracker {
     ghost view = { λ s. record { heap_start = s.heap_start; entries = s.entries } };
 
     ghost invariant = { λ s. IsTracked s.heap_start s.entries };
+}
+
+impl Drop for Tracker {
+    /// Written by hand, so that it is proved once and not in each function that owns a tracker.
+    fn drop(self) {
+        let Tracker {
+            alloc: _,
+            heap_start: _,
+            entries: _,
+        } = self;
+    }
 }
 
 impl Tracker {

@@ -21,7 +21,6 @@ use std::marker::Model;
 
 /// What the shadow keeps, with the claims of the open calls. A call claims from its Invoke on, whether Held or Inside,
 /// until it is answered. Contracts see the log.
-#[derive(Drop)]
 pub struct OpenCalls {
     log: ShadowLog,
     claims: ClaimIndex,
@@ -36,6 +35,13 @@ impl Model for OpenCalls {
     ghost view = { λ s. s.log };
 
     ghost invariant = { λ s. AreClaimed s.claims s.log };
+}
+
+impl Drop for OpenCalls {
+    /// Written by hand, so that it is proved once and not in each function that owns open calls.
+    fn drop(self) {
+        let OpenCalls { log: _, claims: _ } = self;
+    }
 }
 
 impl OpenCalls {

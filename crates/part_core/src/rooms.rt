@@ -10,7 +10,6 @@ use std::marker::Model;
 
 /// Room for what a crossing may copy: the words of an answer, those that a kernel call moves, and a frame. Each burst
 /// of a part passes what it did not use to the next. Contracts see whether all of it is there.
-#[derive(Drop)]
 pub struct Rooms {
     answer: Option<Room<Word>>,
     moved: Option<Room<Word>>,
@@ -28,6 +27,17 @@ impl Model for Rooms {
     ghost invariant = { λ s. IfSome s.answer (λ room. MOST_ANSWER_WORDS ≤ room)
         × IfSome s.moved (λ room. MOST_FRAME_WORDS ≤ room)
         × IfSome s.frame (λ room. MOST_FRAME_WORDS ≤ room) };
+}
+
+impl Drop for Rooms {
+    /// Written by hand, so that it is proved once and not in each function that owns rooms.
+    fn drop(self) {
+        let Rooms {
+            answer: _,
+            moved: _,
+            frame: _,
+        } = self;
+    }
 }
 
 impl Rooms {

@@ -40,12 +40,23 @@ pub type PartEnds = Items<PartEnd>;
 pub type PartReports = Items<PartReport>;
 
 /// A run, the final states and summaries of its parts, and the status.
-#[derive(Drop)]
 pub struct Report {
     pub run: Run,
     pub ends: PartEnds,
     pub parts: PartReports,
     pub status: u32,
+}
+
+impl Drop for Report {
+    /// Written by hand, so that it is proved once and not in each function that owns a report.
+    fn drop(self) {
+        let Report {
+            run: _,
+            ends: _,
+            parts: _,
+            status: _,
+        } = self;
+    }
 }
 
 /// Summarizes a run: the losses, the first break and the failures of each part; and the status, which is 7 if a part

@@ -20,7 +20,6 @@ use std::alloc::Global;
 use std::marker::Model;
 
 /// The record, its holder and the open calls by rising number.
-#[derive(Drop)]
 pub struct ShadowLog {
     pending: Vec<CallEntry>,
     count: u32,
@@ -44,6 +43,19 @@ impl Model for ShadowLog {
     } };
 
     ghost invariant = { λ s. IsNumbered 0 s.count s.pending.items };
+}
+
+impl Drop for ShadowLog {
+    /// Written by hand, so that it is proved once and not in each function that owns a log.
+    fn drop(self) {
+        let ShadowLog {
+            pending: _,
+            count: _,
+            config: _,
+            defaults: _,
+            holder: _,
+        } = self;
+    }
 }
 
 impl ShadowLog {

@@ -45,7 +45,6 @@ mod packed;
 pub use packed::PackedSimulation;
 
 /// A run in progress.
-#[derive(Drop)]
 pub struct Simulating<'a> {
     alloc: Global,
     schedule: Schedule,
@@ -81,6 +80,20 @@ impl<'a> Model for Simulating<'a> {
     ghost invariant = { λ s. (length s.seats.items ≤ MOST_PARTS)
         × (length s.threads.items ≤ MOST_THREADS)
         × IfSome s.able (λ able. AreAble s.seats.items s.threads.items able.items) };
+}
+
+impl Drop for Simulating<'_> {
+    /// Written by hand, so that it is proved once and not in each function that owns a simulation.
+    fn drop(self) {
+        let Simulating {
+            alloc: _,
+            schedule: _,
+            seats: _,
+            threads: _,
+            able: _,
+            ready: _,
+        } = self;
+    }
 }
 
 impl<'a> Simulating<'a> {
@@ -207,9 +220,16 @@ impl<'a> Simulating<'a> {
         requires { IsOpenChoice self.parts chosen }
         ensures { IfOk result (IsFoundIn (slice_get self.entry.parts chosen.part) chosen.step) }
     {
-        let mut seats = self.seats;
+        let Simulating {
+            alloc,
+            schedule: _,
+            mut seats,
+            threads: _,
+            able: _,
+            ready: _,
+        } = self;
         let index = chosen.part() as usize;
-        seats[index].take_last(self.alloc, chosen.into_step())
+        seats[index].take_last(alloc, chosen.into_step())
     }
 
     /// The result of the run: each part's journal and final state, each thread's answers, and the given totals of its
@@ -223,9 +243,11 @@ impl<'a> Simulating<'a> {
     {
         let Simulating {
             alloc,
+            schedule: _,
             seats,
             threads,
-            ..
+            able: _,
+            ready: _,
         } = self;
         let ends = take_ends(alloc, &seats)?;
         let journals = take_journals(alloc, seats, left)?;

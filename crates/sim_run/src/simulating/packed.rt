@@ -16,7 +16,6 @@ use std::alloc::Global;
 use std::marker::Model;
 
 /// A packed run in progress. Its schedule is a round robin: a caller that follows every step does not use it.
-#[derive(Drop)]
 pub struct PackedSimulation<'a> {
     alloc: Global,
     seats: Vec<PackedSeat<'a>>,
@@ -45,6 +44,18 @@ impl<'a> Model for PackedSimulation<'a> {
         × IfSome s.able (λ able. AreAble s.seats.items s.threads.items able.items) };
 }
 
+impl Drop for PackedSimulation<'_> {
+    /// Written by hand, so that it is proved once and not in each function that owns a packed simulation.
+    fn drop(self) {
+        let PackedSimulation {
+            alloc: _,
+            seats: _,
+            threads: _,
+            able: _,
+        } = self;
+    }
+}
+
 impl<'a> Simulating<'a> {
     /// Packs the simulation, and leaves the memory that it no longer needs in `left`.
     pub fn into_packed(self, left: &mut LeftRooms) -> Result<PackedSimulation<'a>, NoMemory>
@@ -52,10 +63,11 @@ impl<'a> Simulating<'a> {
     {
         let Simulating {
             alloc,
+            schedule: _,
             seats,
             threads,
             able,
-            ..
+            ready: _,
         } = self;
         Ok(PackedSimulation {
             alloc,

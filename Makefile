@@ -2,7 +2,8 @@
 #
 #   make install                                  below /usr/local
 #   make install PREFIX=/usr DESTDIR=/tmp/tree    as a package of Debian is made
-#   make install PROGRAM=PATH                     with another program than the proved one of this repository
+#   make install PROGRAM=PATH                     with another program than the proved one of this repository, which may
+#                                                 be unproved: a line on standard error then says so
 
 PREFIX = /usr/local
 DESTDIR =
@@ -29,17 +30,19 @@ data = install -m 644
 help:
 	@sed -n '/^#/!q; s/^# \{0,1\}//p' Makefile
 
-# The proved program must be newer than its sources. One that is named must report that it is nooks.
+# The proved program must be newer than its sources. One that is named must report that it is nooks, and may be unproved.
 check-program:
 	@if [ -n "$(PROGRAM)" ]; then \
 	    [ -x "$(PROGRAM)" ] || { echo "make: $(PROGRAM) is no program" >&2; exit 1; }; \
 	elif [ ! -x $(BUILT) ]; then \
-	    echo "make: the proved program is not built yet: ./nooks --version proves and builds it (docs/INSTALL.md)" >&2; \
-	    echo "make: PROGRAM=PATH installs another" >&2; exit 1; \
+	    echo "make: the proved program is not built yet: ./nooks --prove proves and builds it (docs/INSTALL.md)" >&2; \
+	    echo "make: PROGRAM=PATH installs another: out/unproved/nooks, which ./nooks-unproved builds, or out/plain/nooks, which ./nooks-plain builds" >&2; exit 1; \
 	elif [ -n "$$(find crates.txt crates/*/src crates/*/specs crates/*/proofs -newer $(BUILT) -print -quit)" ]; then \
-	    echo "make: a source is newer than the proved program: ./nooks --version proves and builds it anew" >&2; exit 1; \
+	    echo "make: a source is newer than the proved program: ./nooks --prove proves and builds it anew" >&2; exit 1; \
 	fi
-	@$(generate) version > /dev/null
+	@version="$$($(generate) version)" || exit 1; case "$$version" in *unproved) \
+	    [ -n "$(PROGRAM)" ] || { echo "make: $(BUILT) is not proved: it is nooks $$version" >&2; exit 1; }; \
+	    echo "make: installing an unproved program: $(PROGRAM) is nooks $$version" >&2 ;; esac
 
 install: check-program
 	install -d $(addprefix $(DESTDIR),$(bindir) $(mandir) $(addprefix $(docdir)/docs/,guard maps pages survival) $(bashdir) $(zshdir) $(vimdir)/syntax \

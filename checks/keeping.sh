@@ -1,4 +1,4 @@
-# What ./nooks-unproved and ./nooks-plain share. Each keeps its program as out/KIND/nooks, with KIND `unproved` or `plain`,
+# What ./nooks, ./nooks-unproved and ./nooks-plain share. A program is kept as out/KIND/nooks, with KIND `unproved` or `plain`,
 # and next to it the checksum of the sources that it was built from. The caller sets `top`, the folder of the repository.
 
 # Whether a command is on the path.
@@ -6,10 +6,10 @@ has() {
     command -v "$1" > /dev/null
 }
 
-# Lists the files that a program is built from, each ended by a zero byte.
+# Lists the files that a program is built from, and of the scripts those that change them, each ended by a zero byte.
 sources() {
     case "$1" in
-    unproved) find crates.txt crates/*/src crates/*/specs -type f -print0 ;;
+    unproved) find crates.txt checks/unproved checks/trying.py crates/*/src crates/*/specs -type f -print0 ;;
     plain) find bench/plain -type f -print0 ;;
     esac
 }

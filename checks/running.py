@@ -119,7 +119,7 @@ def program_from(words: Sequence[str]) -> str:
 def there(program: str) -> str:
     """The absolute path of a program; ends the script if it cannot be run."""
     if not os.access(program, os.X_OK):
-        sys.exit(f"{program} is not there: ./nooks and rt ci build the proved program, ./nooks-unproved {UNPROVED}, ./nooks-plain {PLAIN}")
+        sys.exit(f"{program} is not there: ./nooks --prove and rt ci build the proved program, ./nooks-unproved {UNPROVED}, ./nooks-plain {PLAIN}")
     return os.path.abspath(program)
 
 

@@ -114,11 +114,12 @@ def forms(program: str) -> tuple[list[Form], list[Form]]:
 
 
 def version(program: str) -> str:
-    """The version that the program prints."""
-    found = re.search(r"\bnooks\b.*?(\d+\.\d+\.\d+)", asked(program, "--version").splitlines()[0])
+    """The version that the program prints. It ends with "unproved" if the program does not say by what it is proved."""
+    line = asked(program, "--version").splitlines()[0]
+    found = re.search(r"\bnooks\b.*?(\d+\.\d+\.\d+)", line)
     if not found:
         sys.exit(f"{program} is no program nooks: its --version does not have that name and a version")
-    return found.group(1)
+    return found.group(1) if ", proved with " in line else f"{found.group(1)} unproved"
 
 
 def bench_version() -> str:

@@ -17,8 +17,11 @@ FORM = "explore"
 INCOMPLETE = STATUSES["cut"]
 ANSWERS = (*REPORTED, INCOMPLETE)
 
-# The end of the version line of a program of which nothing is proved.
-PLAIN = " plain, nothing proved"
+# The ends of the version lines of programs of which nothing is proved, and what such a program is called.
+UNPROVED = {
+    " plain, nothing proved": "the plain program, of which nothing is proved",
+    " unproved": "the program, built without proofs",
+}
 
 ROW = re.compile(r"(\d+) status (\d+) events (\d+) failures (\d+) gone (\d+) lost (\d+) picks \[([\d,]*)\]")
 LAST = re.compile(r"explored (front )?(\d+) states (\d+) outcomes kept (\d+) given_up (\d+) broken (\d+)")
@@ -66,9 +69,10 @@ def parse_explored(text: str) -> Explored:
     return Explored(found, int(words[2]), words[1] is not None)
 
 
-def is_plain(program: Program) -> bool:
-    """Whether nothing is proved of a program, as it says itself."""
-    return (program.version() or "").endswith(PLAIN)
+def name_of(program: Program) -> str:
+    """Returns what a program is called; if nothing is proved of it, as it says itself, the name says so."""
+    version = program.version() or ""
+    return next((name for end, name in UNPROVED.items() if version.endswith(end)), "the program")
 
 
 def explored(program: Program, scenario: Scenario) -> Explored:

@@ -7,7 +7,7 @@ from typing import Sequence
 
 from .columns import Row, text_lines
 from .ends import CONTRACT, KEPT, Differing, End, differing, listed, order_text
-from .explored import is_plain
+from .explored import name_of
 from .facts import STATUSES
 from .preemptions import Search
 from .ways import Ways
@@ -39,8 +39,7 @@ def statuses_text(ends: Sequence[End]) -> str:
 
 def covered_lines(ways: Ways) -> list[str]:
     """Describes what was followed, and by which program."""
-    by = "the plain program, of which nothing is proved" if is_plain(ways.program) else "the program"
-    lines = [f"run by {by}, {ways.program.path}"]
+    lines = [f"run by {name_of(ways.program)}, {ways.program.path}"]
     found = ways.explored
     if found and found.is_prefix:
         lines.append(f"NOT every order: there are more than {found.states:,} states, so longer runs were not followed")

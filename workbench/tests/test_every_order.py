@@ -13,7 +13,7 @@ from race import racing_scenario
 
 from nooks_bench import explored
 from nooks_bench.ends import differing, end_of, order_text
-from nooks_bench.explored import INCOMPLETE, is_plain
+from nooks_bench.explored import INCOMPLETE
 from nooks_bench.preemptions import Search, Switch, Walk, follow, setting_of
 from nooks_bench.program import Mistake
 from nooks_bench.report import parse_report
@@ -21,7 +21,12 @@ from nooks_bench.scenario import with_schedule
 from nooks_bench.schedules_text import shortened
 
 EXPLORER = program()
-BY = "the plain program, of which nothing is proved" if is_plain(EXPLORER) else "the program"
+
+# What the program is called, by the words of its version line after the number.
+CALLED = {
+    "plain, nothing proved": "the plain program, of which nothing is proved",
+    "unproved": "the program, built without proofs",
+}
 
 RACES = {"read-ahead": 7, "two-sends": 7, "shared-word": 7, "spins": 1}
 ACTED = re.compile(r"(?m)^\d+ (?:invoke c\d+ t(\d+)|(?:enter c\d+|burst) x(\d+)|(stage|arrive))\b")
@@ -101,7 +106,8 @@ class EveryOrder(unittest.TestCase):
         lines = [[int(word) for word in line.split()] for line in out.split("\n") if re.fullmatch(r"[ \d]+", line)]
         self.assertEqual([line[:3] for line in lines], [[number, each[0], len(each[1])] for number, each in enumerate(found, 1)])
         self.assertRegex(out, r"(?m)^every order of the steps: [\d,]+ states$")
-        self.assertIn(f"\nrun by {BY}, {EXPLORER.path}\n", out)
+        said = re.sub(r"^nooks [0-9.]+,? ", "", EXPLORER.version())
+        self.assertIn(f"\nrun by {CALLED.get(said, 'the program')}, {EXPLORER.path}\n", out)
         self.assertTrue(out.endswith("some order breaks a contract\n"))
         read = report(example("read-ahead.json"), found[1][1])
         self.assertIn("\ncontract broken event 37 clause 4\n", read)

@@ -2,12 +2,15 @@
 
 import glob
 import gzip
+import importlib.machinery
+import importlib.util
 import json
 import os
 import re
 import shutil
 import stat
 import subprocess
+import sys
 import tempfile
 import unittest
 import urllib.request
@@ -217,7 +220,8 @@ class Installed(unittest.TestCase):
                 self.assertNotEqual(ended.returncode, 0)
                 self.assertIn(message, ended.stderr)
             ended = make("install", f"DESTDIR={other}", "BUILT=/nowhere/nooks_main")
-            self.assertIn("the proved program is not built yet: ./nooks --version proves and builds it", ended.stderr)
+            self.assertIn("the proved program is not built yet: ./nooks --prove proves and builds it", ended.stderr)
+            self.assertIn("out/unproved/nooks, which ./nooks-unproved builds, or out/plain/nooks", ended.stderr)
             old = os.path.join(other, "old")
             shutil.copy(program().path, old)
             os.utime(old, (0, 0))
@@ -225,6 +229,96 @@ class Installed(unittest.TestCase):
             self.assertIn("a source is newer than the proved program", ended.stderr)
             os.remove(old)
             self.assertEqual(os.listdir(other), [])
+
+
+# The lines with which programs print their version, and what each is called where it is installed.
+PROVED = "nooks 9.8.7, proved with some-kit logic 0123"
+VERSIONS = {
+    PROVED: "nooks 9.8.7",
+    "nooks 9.8.7 unproved": "nooks 9.8.7 unproved",
+    "nooks 9.8.7 plain, nothing proved": "nooks 9.8.7 unproved",
+}
+
+
+@unittest.skipUnless(shutil.which("make"), "there is no make")
+class Unproved(unittest.TestCase):
+    """An installation of a program that is not proved says so. The program prints some version, and else is the tested one."""
+
+    def setUp(self) -> None:
+        holder = tempfile.TemporaryDirectory()
+        self.addCleanup(holder.cleanup)
+        self.folder = holder.name
+
+    def program(self, version: str) -> str:
+        path = os.path.join(self.folder, "program")
+        with open(path, "w", encoding="utf-8") as file:
+            file.write(f"#!/bin/sh\n[ \"$1\" = --version ] && exec echo '{version}'\nexec '{program().path}' \"$@\"\n")
+        os.chmod(path, 0o755)
+        return path
+
+    def test_what_is_installed_is_called_what_it_is(self):
+        for version, name in VERSIONS.items():
+            path, tree = self.program(version), os.path.join(self.folder, "tree")
+            ended = make("install", "PREFIX=/usr", f"DESTDIR={tree}", f"PROGRAM={path}")
+            said = "" if version == PROVED else f"make: installing an unproved program: {path} is {name}\n"
+            self.assertEqual((ended.returncode, ended.stderr), (0, said))
+            with gzip.open(os.path.join(tree, "usr/share/man/man1/nooks.1.gz"), "rt", encoding="utf-8") as page:
+                text = page.read()
+            self.assertIn(f' "{name}" ', text.split("\n")[0])
+            self.assertEqual("proved with some" in text, version == PROVED)
+            self.assertEqual(run([os.path.join(tree, "usr/bin/nooks"), "--version"]).stdout, version + "\n")
+            shutil.rmtree(tree)
+
+    def test_only_a_proved_program_is_installed_without_a_name(self):
+        for version, name in VERSIONS.items():
+            path, tree = self.program(version), os.path.join(self.folder, "tree")
+            ended = make("install", f"DESTDIR={tree}", f"BUILT={path}")
+            if version == PROVED:
+                self.assertEqual((ended.returncode, ended.stderr), (0, ""))
+                shutil.rmtree(tree)
+            else:
+                self.assertNotEqual(ended.returncode, 0)
+                self.assertIn(f"make: {path} is not proved: it is {name}\n", ended.stderr)
+                self.assertFalse(os.path.exists(tree))
+
+
+class UnprovedTexts(unittest.TestCase):
+    """checks/unproved builds from sources whose version ends with "unproved"."""
+
+    def setUp(self) -> None:
+        checks = os.path.join(TOP, "checks")
+        sys.path.insert(0, checks)
+        self.addCleanup(sys.path.remove, checks)
+        loader = importlib.machinery.SourceFileLoader("unproved", os.path.join(checks, "unproved"))
+        self.script = importlib.util.module_from_spec(importlib.util.spec_from_loader("unproved", loader))
+        loader.exec_module(self.script)
+        with open(os.path.join(TOP, "crates/nooks/src/texts.rt"), encoding="utf-8") as file:
+            self.texts = file.read()
+
+    def test_one_ending_is_replaced(self):
+        changed = self.script.unproved_texts(self.texts)
+        lines = {name: text.split("\n") for name, text in (("old", self.texts), ("new", changed))}
+        self.assertEqual(len(lines["old"]), len(lines["new"]))
+        differing = [pair for pair in zip(lines["old"], lines["new"]) if pair[0] != pair[1]]
+        self.assertEqual(len(differing), 1)
+        self.assertRegex(differing[0][0], rf'= b"nooks {re.escape(__version__)}, proved with [^"]*\\n";$')
+        self.assertTrue(differing[0][1].endswith(f'= b"nooks {__version__} unproved\\n";'))
+
+    def test_a_text_that_is_not_there_once_is_refused(self):
+        for texts in (self.texts.replace(", proved with", ", shown with"), self.texts * 2, ""):
+            with self.assertRaises(self.script.NoVersion):
+                self.script.unproved_texts(texts)
+
+    def test_the_sources_of_the_build(self):
+        with self.script.unproved_sources() as copy:
+            self.assertEqual((copy / "crates/nooks/src/texts.rt").read_text(), self.script.unproved_texts(self.texts))
+            self.assertEqual((copy / "crates.txt").read_bytes(), (self.script.TOP / "crates.txt").read_bytes())
+            found = [path for path in (copy / "crates").rglob("*.rt") if path.name != "texts.rt"]
+            self.assertGreater(len(found), 200)
+            for path in found:
+                source = self.script.TOP / path.relative_to(copy)
+                self.assertEqual(path.read_bytes(), source.read_bytes())
+        self.assertFalse(copy.exists())
 
 
 class Versions(unittest.TestCase):

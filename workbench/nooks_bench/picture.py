@@ -17,7 +17,7 @@ from typing import Any
 from . import __version__
 from .output import Output, Unwritten
 from .program import Mistake, Program
-from .svg import GREY, Canvas
+from .svg import EDGE, GREY, Canvas
 
 # The size of most letters in a drawing that is not scaled.
 LETTERS = 11
@@ -91,11 +91,13 @@ def version_of(program: Program | None) -> str:
     return f"nooks-bench {__version__}" + (f", {version}" if version else "")
 
 
-def caption(canvas: Canvas, lines: list[str], room: float) -> None:
-    """Draws small lines below a drawing: how it was made, and what it shows."""
+def caption(canvas: Canvas, lines: list[str], width: float) -> None:
+    """Draws small lines below a drawing: how it was made, and what it shows. They are wrapped, so that the drawing with
+    its edges has the given width at most, unless it is wider already."""
     y = canvas.height + 20
+    room = max(width - EDGE, canvas.width) - EDGE
     for line in lines:
-        y += canvas.lines(12, y, line, max(room, canvas.width) - 12, 8.5, GREY)
+        y += canvas.lines(EDGE, y, line, room, 8.5, GREY)
 
 
 def format_of(args: argparse.Namespace) -> str:

@@ -24,14 +24,28 @@ def text_width(text: str, size: float) -> float:
 
 
 def fitted(text: str, size: float, room: float) -> list[str]:
-    """Splits a text between words into lines that fit into some room, as far as possible."""
+    """Splits a text between words into lines that fit into some room, and a word that is too long between letters."""
     lines: list[str] = []
     for word in text.split(" "):
         if lines and text_width(f"{lines[-1]} {word}", size) <= room:
             lines[-1] += f" {word}"
         else:
-            lines.append(word)
+            lines += pieces(word, size, room)
     return lines
+
+
+def pieces(word: str, size: float, room: float) -> list[str]:
+    """Splits a word between letters into pieces that fit into some room, with a letter at least in each."""
+    found = [""]
+    for letter in word:
+        if found[-1] and text_width(found[-1] + letter, size) > room:
+            found.append("")
+        found[-1] += letter
+    return found
+
+
+# The room at the edges of a drawing.
+EDGE = 12
 
 
 @dataclass
@@ -79,11 +93,14 @@ class Canvas:
         """Adds words with the size and the colour of the group around them."""
         self.add("text", "", text, x=x, y=y, **more)
 
-    def lines(self, x: float, y: float, text: str, room: float, size: float = 11, fill: str = BLACK) -> float:
+    def lines(
+        self, x: float, y: float, text: str, room: float, size: float = 11, fill: str = BLACK, weight: str = "normal"
+    ) -> float:
         """Adds a text in lines that fit into some room, and returns their height."""
         written = fitted(text, size, room)
+        more = {} if weight == "normal" else {"font_weight": weight}
         for number, line in enumerate(written):
-            self.words(x, y + number * (size + 3), line, size, fill)
+            self.words(x, y + number * (size + 3), line, size, fill, **more)
         return len(written) * (size + 3)
 
     def shape(self, path: str, fill: str, title: str = "", **more: object) -> None:
@@ -101,8 +118,8 @@ class Canvas:
 
     def text(self, title: str, scale: float = 1.0) -> str:
         """Returns the whole drawing; the scale applies to all of it, including letters."""
-        wide, high = shown(self.width + 12), shown(self.height + 12)
-        sizes = [shown((side + 12) * scale) for side in (self.width, self.height)]
+        wide, high = shown(self.width + EDGE), shown(self.height + EDGE)
+        sizes = [shown((side + EDGE) * scale) for side in (self.width, self.height)]
         size = f'width="{sizes[0]}" height="{sizes[1]}" viewBox="0 0 {wide} {high}"'
         head = f'<svg xmlns="http://www.w3.org/2000/svg" {size} style="{FONT}">'
         ground = f'<rect width="{wide}" height="{high}" fill="{WHITE}"/>'

@@ -72,7 +72,8 @@ def run(args: argparse.Namespace) -> int:
         print("\n".join(text_lines(times, max(wide, 40), args.wrap)))
         return 0
     notes = caption_lines(args, None, f"{subject}, status {report.status}")
-    put_picture(drawing(times, room_of(args, DEFAULT_WIDTH), args.wrap, notes, scale_of(args)), args)
+    room, is_filled = room_of(args, DEFAULT_WIDTH), args.width is not None
+    put_picture(drawing(times, room, args.wrap, notes, scale_of(args), is_filled), args)
     return 0
 
 

@@ -9,7 +9,7 @@ from .calls import AT_ENTER, BY_DRIVER, BY_SHADOW, GONE, REFUSED, Call
 from .folding import folded_lines, short_event
 from .picture import caption
 from .report import Event
-from .svg import BLACK, BLUE, GREEN, GREY, ORANGE, PALE, PURPLE, RED, SKY, WHITE, Canvas
+from .svg import BLACK, BLUE, EDGE, GREEN, GREY, ORANGE, PALE, PURPLE, RED, SKY, WHITE, Canvas
 from .svg import cross, diamond, text_width, triangle
 from .times import ACTS, BOOT, GIVEN_UP, GUARD, RECOVERS, SERVES, SEVERAL, STAGES, STRIKES, PartTimes
 from .times import act_letter, failure_note
@@ -181,8 +181,7 @@ class Drawing:
         """Draws all of one part: its head, its rows, and what the lanes do not say."""
         part = times.part
         head = f"part {part.index} {part.name}, {part.kind}: {counted(part.failures, 'failure')}, limit {part.limit}"
-        self.canvas.words(12, self.y + 4, head, 13, font_weight="bold")
-        self.y += 12
+        self.y += self.canvas.lines(12, self.y + 4, head, self.width - 2 * EDGE, 13, weight="bold") - 4
         for first in range(times.first, times.last + 1, self.per_row):
             self.first, self.last = first, min(first + self.per_row - 1, times.last)
             self.row(times)
@@ -289,7 +288,7 @@ class Drawing:
         if call.by in self.answer_marks() and self.shows(call.answered):
             self.answer_marks()[call.by](self.middle(call.answered), self.y + BAR / 2, title)
         label = asked if text_width(asked, 8.5) <= wide else asked.split(" ")[0]
-        if text_width(label, 8.5) <= wide + 4:
+        if text_width(label, 8.5) <= min(wide + 4, self.left(self.first + self.per_row) - x - 1):
             self.canvas.words(x + 1, self.y + BAR + 9, label, 8.5, title=title)
 
     def marks(self, times: PartTimes, call: Call, asked: str) -> None:
@@ -362,9 +361,13 @@ def act_fill(letter: str) -> str:
     return "#cfe6f5" if letter in OUTWARD else WHITE
 
 
-def drawing(times: list[PartTimes], width: float, wrap: int | None, notes: list[str], scale: float) -> str:
-    """Returns the SVG of some parts' timelines, with a caption."""
+def drawing(
+    times: list[PartTimes], width: float, wrap: int | None, notes: list[str], scale: float, is_filled: bool
+) -> str:
+    """Returns the SVG of some parts' timelines, with a caption. A short one is narrower than the width, unless it is
+    filled up."""
     made = Drawing(times, width, wrap)
+    made.canvas.reach(width - EDGE if is_filled else 0, 0)
     made.legend()
     for each in times:
         made.part(each)

@@ -73,7 +73,10 @@ class Scripts(unittest.TestCase):
 
     def calls(self, name: str) -> int:
         path = os.path.join(self.folder, f"{name}.calls")
-        return len(open(path, encoding="utf-8").readlines()) if os.path.exists(path) else 0
+        if not os.path.exists(path):
+            return 0
+        with open(path, encoding="utf-8") as file:
+            return len(file.readlines())
 
     def test_the_best_program_runs_and_standard_error_is_empty(self):
         for name in ("rustc", "rt"):

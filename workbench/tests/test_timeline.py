@@ -1,6 +1,9 @@
 """timeline: the lanes show what the report says, and each SVG is well-formed."""
 
+import contextlib
 import glob
+import shutil
+import tempfile
 import unittest
 import xml.etree.ElementTree as ElementTree
 
@@ -103,6 +106,26 @@ class Timelines(unittest.TestCase):
         large = ElementTree.fromstring(bench("timeline", "--font-size", "22", "--width", "900", path)[1])
         self.assertAlmostEqual(float(large.get("width")), 900, delta=1)
         self.assertAlmostEqual(float(large.get("viewBox").split(" ")[2]), 450, delta=1)
+
+    def test_the_width_is_kept(self):
+        """A drawing is as wide as it was asked to be, whatever the report and the length of its path in the caption."""
+        for path in glob.glob(example_path("*.report")):
+            for size, least in (("11", 300), ("22", 600)):
+                for width in (least, 900, 1501):
+                    out = bench("timeline", "--font-size", size, "--width", str(width), path)[1]
+                    self.assertEqual(ElementTree.fromstring(out).get("width"), str(width), path)
+
+    def test_the_width_is_kept_whatever_the_path(self):
+        with tempfile.TemporaryDirectory() as folder, contextlib.chdir(folder):
+            for length in range(1, 81):
+                for letter in "aiM":
+                    path = letter * length
+                    shutil.copyfile(example_path("link-loses.report"), path)
+                    for size, width in (("22", "900"), ("11", "700"), ("11", "200")):
+                        words = ["timeline", "--font-size", size, "--width", width, path]
+                        out = bench(*words)[1]
+                        self.assertEqual(ElementTree.fromstring(out).get("width"), width, path)
+                        self.assertIn(" ".join(["nooks-bench", *words]).replace(" ", ""), "".join(texts_of(out)).replace(" ", ""))
 
     def test_each_stage_has_its_name_or_a_key(self):
         for words in ([], ["--wrap", "60"]):

@@ -11,10 +11,10 @@ from common import TOP
 PROVED = "crates/nooks_main/out/nooks_main"
 KEPT = {"unproved": "out/unproved/nooks", "plain": "out/plain/nooks"}
 
-# What stands for a program: it prints its name and its arguments.
+# A program of these tests: it prints its name and its arguments.
 PROGRAM = '#!/bin/sh\necho "{name}: $*"\n'
 
-# What stands for a compiler: it notes that it was called, and writes a program to the path after -o.
+# A compiler of these tests: it notes that it was called, and writes a program to the path after -o.
 COMPILER = """#!/bin/sh
 echo called >> "{folder}/{name}.calls"
 while [ $# -gt 0 ]; do [ "$1" = -o ] && printf '{program}' > "$2" && chmod 755 "$2"; shift; done
@@ -22,7 +22,7 @@ while [ $# -gt 0 ]; do [ "$1" = -o ] && printf '{program}' > "$2" && chmod 755 "
 
 
 class Scripts(unittest.TestCase):
-    """A small clone: the scripts, with sources and compilers that stand for the real ones."""
+    """A small clone: the scripts, with sources and compilers that are replaced by small ones."""
 
     def setUp(self) -> None:
         holder = tempfile.TemporaryDirectory()

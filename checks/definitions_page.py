@@ -53,7 +53,7 @@ CHAPTERS = (
         "What a user is promised, in the subject's own words.",
         ("promise_defs/Blocks", "promise_defs/Trace", "promise_defs/Ideal", "nook_data/Clauses", "promise_defs/Contract",
          "promise_defs/Losses", "promise_defs/Licence", "promise_defs/Isolation", "headline_laws/Headline",
-         "headline_laws/GivenUp", "headline_laws/Recoveries"),
+         "headline_laws/Durable", "headline_laws/GivenUp", "headline_laws/Recoveries"),
     ),
     Chapter(
         "The guard",

@@ -236,7 +236,7 @@ abbrev answers_in : Event → List (ℕ × Answer)
 answers_in (event.Stage s answers released) = answers
 answers_in _ = []
 
-abbrev stage_reported : Event → Stage
+abbrev pub stage_reported : Event → Stage
 stage_reported (event.Stage s answers released) = s
 stage_reported _ = stage.Collect
 
@@ -250,7 +250,7 @@ dead_stage (mode.Boot s) p d e = absurd cc
 dead_stage mode.Running p d s = absurd cc
 dead_stage (mode.Recovering s) p d e = absurd cc
 
-stage_due_of : (p : PartState) → enabled p step.Stage ≡ true → is_some (stage_due p.mode) ≡ true
+pub stage_due_of : (p : PartState) → enabled p step.Stage ≡ true → is_some (stage_due p.mode) ≡ true
 unfolding enabled
 stage_due_of p e = (and_parts (is_some (stage_due p.mode)) (not (is_driven p)) e).0
 

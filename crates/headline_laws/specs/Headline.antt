@@ -1,22 +1,28 @@
 -- What is claimed of each part of a run.
-use Rattle.std.specs.Prelude.{◌≡◌, ◌≤◌, true, false, None, List, [], ◌∷◌, ◌++◌, length}
+use Rattle.std.specs.Prelude.{◌≡◌, ◌≤◌, ℕ, ◌+◌, nat_lt, is_some, true, false, None, List, [], ◌∷◌, ◌++◌, length}
 use Rattle.std.specs.List.{AllByRecursion}
+use Rattle.nook_data.specs.declared.calls.Answer.{Answer}
+use Rattle.nook_data.specs.declared.entries.Entry.{Entry}
 use Rattle.nook_data.specs.declared.steps.Event.{Event}
+use Rattle.nook_data.specs.declared.steps.Event.TheVariants as event
 use Rattle.nook_data.specs.declared.scenario.PartSpec.{PartSpec}
 use Rattle.nook_data.specs.declared.steps.Mode.TheVariants as mode
 use Rattle.nook_data.specs.declared.steps.Stage.TheVariants as stage
+use Rattle.machine_defs.specs.Devices.{medium_of}
 use Rattle.promise_defs.specs.Contract.{first_break}
 use Rattle.promise_defs.specs.Ideal.{Ideal, IsClassRun}
 use Rattle.promise_defs.specs.Isolation.{IsIsolated}
 use Rattle.promise_defs.specs.Licence.{IsLicensed}
-use Rattle.part_defs.specs.Runs.{IsRun, state_of}
+use Rattle.part_defs.specs.Runs.{IsRun, next_recovery, state_of}
 use Rattle.promise_defs.specs.Trace.{trace}
 use Rattle.part_laws.specs.Bound.{carries_failure, failures_of, most_events}
 use Rattle.part_laws.specs.Collection.{IsCollecting}
 use Rattle.part_laws.specs.Facts.{is_dead}
+use Rattle.part_laws.specs.Progress.{HasProgress}
 use Rattle.part_laws.specs.Recovery.{Agrees, ShowsDevice}
+use Rattle.headline_laws.specs.Durable.{IsDurable}
 use Rattle.headline_laws.specs.GivenUp.{IsGivingUp, IsOfGivenUp}
-use Rattle.headline_laws.specs.Recoveries.{IsShort, while_away}
+use Rattle.headline_laws.specs.Recoveries.{IsShort, is_away, while_away}
 
 -- for its applications a part is a device that never fails
 pub record IsTransparent (spec : PartSpec) (journal : List Event) : Type 0 where
@@ -28,6 +34,11 @@ pub record IsTransparent (spec : PartSpec) (journal : List Event) : Type 0 where
   -- at the end record and holder are those of the never-failing device; if no Write is open, the medium is the plain
   -- disk's; in Running, with no Set Inside, the registers are the record
   pub agrees : (device : Ideal) → ShowsDevice spec journal device → Agrees (state_of spec journal) device
+  -- also while Writes are open, each block of the medium holds the words last acknowledged for it, or those of an open
+  -- Write that covers it
+  pub durable : (device : Ideal) → ShowsDevice spec journal device
+      → IsDurable (state_of spec journal).log.pending device.blocks
+      (medium_of (state_of spec journal).domain.device)
 
 -- everything that is promised of a part's journal, whatever its driver executes and in any order of the steps
 pub record IsSafe (spec : PartSpec) (journal : List Event) : Type 0 where
@@ -58,6 +69,26 @@ pub record IsSafe (spec : PartSpec) (journal : List Event) : Type 0 where
   -- after that each operation is answered at its invocation, Gone or as the static check says, and nothing runs
   pub given_up : (front back : List Event) → journal ≡ front ++ back → is_dead (state_of spec front).mode ≡ true
       → AllByRecursion (IsOfGivenUp spec (failures_of front)) back
+  -- the medium of a part that was given up after drivers that kept the class contract: each block holds the words last
+  -- acknowledged for it, or those of a Write that covers it and was answered Gone when the part was given up
+  pub remains : (front back : List Event) (e : Event) → journal ≡ front ++ e ∷ back
+      → first_break spec.class spec.blocks front ≡ None
+      → is_dead (state_of spec front).mode ≡ false → is_dead (state_of spec (front ++ e ∷ [])).mode ≡ true
+      → (device : Ideal) → ShowsDevice spec front device
+      → IsDurable (state_of spec front).log.pending device.blocks
+      (medium_of (state_of spec journal).domain.device)
+  -- a Stop gives the part up exactly if there were more failures before it than the limit
+  pub limit : (front back : List Event) (answers : List (ℕ × Answer)) (released : List Entry)
+      → journal ≡ front ++ event.Stage stage.Stop answers released ∷ back
+      → is_dead (state_of spec (front ++ event.Stage stage.Stop answers released ∷ [])).mode
+      ≡ nat_lt spec.limit (failures_of front)
+  -- there is at most one failure more than the limit, so that one is the last
+  pub failures : failures_of journal ≤ spec.limit + 1
+  -- after every prefix of the journal the next step, if there is one, may be taken; if there is none, no call is open
+  pub progress : (front back : List Event) → journal ≡ front ++ back → HasProgress (state_of spec front)
+  -- while the driver is away, there is one: the next stage, or a burst of the shadow
+  pub returning : (front back : List Event) → journal ≡ front ++ back → is_away (state_of spec front).mode ≡ true
+      → is_some (next_recovery (state_of spec front)) ≡ true
 
 -- the same of each part, in order; each part has one journal
 unfoldable pub AreSafe : List PartSpec → List (List Event) → Type 0

@@ -12,9 +12,13 @@ ghost use Rattle.std.specs.Prelude.{ℕ, List, None, Some, take, ◌-◌, ◌≡
 
 /// Whatever a part's driver executes, and in any order of its steps: each burst writes only where the driver may write,
 /// no kernel object changes unless it is lent, each Collect leaves only the registration, and every recovery ends after
-/// at most 11 stages and 192 bursts. As long as the class contract was kept and the part not given up, the applications
-/// saw one run of a device that never fails, and the part agrees with it. When the part is given up, and after that,
-/// each call is answered Gone, or as the static check says.
+/// at most 11 stages and 192 bursts, of which the next may always be taken. While a call is open, a step may be taken.
+/// A Stop gives the part up exactly if there were more failures before it than the limit, so at failure `limit + 1`.
+///
+/// As long as the class contract was kept and the part not given up, the applications saw one run of a device that never
+/// fails, and the part agrees with it: also while Writes are open, each block of the medium holds the words last
+/// acknowledged for it, or those of an open Write that covers it. When the part is given up, and after that, each call
+/// is answered Gone, or as the static check says, and the medium stays as it was.
 pub fn every_run_is_safe()
     ensures { (spec : PartSpec) (journal : List Event)
         → IsValidPart spec → IsRun spec journal → IsSafe spec journal }

@@ -4,4 +4,6 @@ mod FirstBreak
 mod GivenUp
 mod Away
 mod Failing
+mod Unchanged
+mod Restarts
 pub mod Safe

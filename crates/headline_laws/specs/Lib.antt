@@ -1,3 +1,4 @@
 pub mod GivenUp
 pub mod Recoveries
 pub mod Headline
+pub mod Restart

@@ -1,0 +1,84 @@
+use Rattle.std.specs.Prelude.{◌≡◌, ℕ, Bool, true, false, Option, List, [], ◌∷◌, ◌++◌, take, drop}
+use Rattle.nook_data.specs.Types.{CallEntry, DeviceKind, DeviceState, Event, PartSpec}
+use Rattle.nook_data.specs.declared.devices.DeviceKind.TheVariants as kind
+use Rattle.nook_data.specs.declared.memory_map.TheConstants.{BUFFERS_END}
+use Rattle.nook_data.specs.declared.steps.Event.TheVariants as event
+use Rattle.nook_data.specs.declared.steps.Mode.TheVariants as mode
+use Rattle.nook_data.specs.declared.steps.Stage.TheVariants as stage
+use Rattle.nook_data.specs.declared.steps.Step.TheVariants as step
+use Rattle.machine_defs.specs.Devices.{medium_of, ring_of}
+use Rattle.part_defs.specs.Runs.{IsRun, state_after, state_of}
+use Rattle.part_defs.specs.State.{DomainState, PartState}
+use Rattle.part_defs.specs.Steps.{opening}
+
+-- What a restarted driver begins with.
+
+-- the domain after the Load of a boot, if no frame arrived before it
+abbrev pub fresh_domain : PartSpec → DomainState
+fresh_domain spec = (state_after (opening spec) step.Stage).domain
+
+-- how many commands each block of a disk had; other devices have no blocks
+abbrev pub counts_of : DeviceState → List ℕ
+counts_of d = elim d.kind [ (kind.Disk k) ↦ k.counts | _ ↦ [] ]
+
+-- what of a domain a restart does not renew: the words of the kernel objects, a disk's blocks and their counts of
+-- commands, and the frames in a link's ring
+pub record Kept : Type 0 where
+  pub objects : List ℕ
+  pub medium : List (List ℕ)
+  pub counts : List ℕ
+  pub ring : List (List ℕ)
+
+abbrev pub kept_of : DomainState → Kept
+kept_of d = record {
+  objects = drop BUFFERS_END d.memory;
+  medium = medium_of d.device;
+  counts = counts_of d.device;
+  ring = ring_of d.device;
+}
+
+-- a device with what was kept
+abbrev pub kind_with : Kept → DeviceKind → DeviceKind
+kind_with kept (kind.Disk k) = kind.Disk (record k { medium = kept.medium; counts = kept.counts })
+kind_with kept (kind.Link k) = kind.Link (record k { ring = kept.ring })
+kind_with kept kind.Speaker = kind.Speaker
+
+-- a domain with what was kept
+abbrev pub domain_with : Kept → DomainState → DomainState
+domain_with kept d = record d {
+  memory = take BUFFERS_END d.memory ++ kept.objects;
+  device = record d.device { kind = kind_with kept d.device.kind };
+}
+
+-- text, data, stacks and buffers, the contexts, what the driver holds, and the device's registers, commands and buffers
+-- are those after the Load of a boot
+abbrev pub IsClean : PartSpec → DomainState → Type 0
+IsClean spec d = d ≡ domain_with (kept_of d) (fresh_domain spec)
+
+-- the image is loaded
+abbrev pub is_load : Event → Bool
+is_load (event.Stage stage.Load answers released) = true
+is_load _ = false
+
+-- a run whose last event is the Load of a recovery
+pub record IsRestart (spec : PartSpec) (journal : List Event) : Type 0 where
+  pub run : IsRun spec journal
+  pub front : List Event
+  pub load : Event
+  pub parts : journal ≡ front ++ load ∷ []
+  pub is_load : is_load load ≡ true
+  pub recovering : (state_of spec front).mode ≡ mode.Recovering stage.Load
+
+-- all that two parts have in common after a restart, if what follows is to be the same: what of the domain was kept,
+-- the configuration last acknowledged, the thread that holds the stream, the open calls, the kernel's queue, and the
+-- numbers of calls, failures, bursts and arrivals so far. A fault names its burst by that number
+pub record AreAlike (p q : PartState) : Type 0 where
+  pub kept : kept_of p.domain ≡ kept_of q.domain
+  pub config : p.log.config ≡ q.log.config
+  pub holder : p.log.holder ≡ q.log.holder
+  pub pending : p.log.pending ≡ q.log.pending
+  pub queue : p.queue ≡ q.queue
+  pub calls : p.log.count ≡ q.log.count
+  pub failures : p.failures ≡ q.failures
+  pub bursts : p.bursts ≡ q.bursts
+  pub arrived : p.arrived ≡ q.arrived

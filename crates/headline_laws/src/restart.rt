@@ -1,0 +1,26 @@
+//! A restart is clean: what a driver begins with after a recovery, and what it may depend on.
+
+ghost use Rattle.nook_data.specs.Valid.{IsValidPart};
+ghost use Rattle.nook_data.specs.declared.scenario.PartSpec.{PartSpec};
+ghost use Rattle.nook_data.specs.declared.steps.Event.{Event};
+ghost use Rattle.part_defs.specs.Runs.{IsRun, state_of};
+ghost use Rattle.headline_laws.specs.Restart.{AreAlike, IsClean, IsRestart, is_load};
+ghost use Rattle.std.specs.Prelude.{List, [], ◌∷◌, ◌++◌, ◌≡◌, true};
+
+/// After every Load of a run, that of the boot or that of a recovery, the domain is the one after the boot's Load, except
+/// for the kernel objects, a disk's blocks and their counts of commands, and the frames in a link's ring. Whatever a
+/// driver did before it was stopped, none of its words is left in the text, the data, a stack or a buffer, it holds
+/// nothing, no context is Inside, and the device's registers have the defaults.
+pub fn every_restart_is_clean()
+    ensures { (spec : PartSpec) (journal front back : List Event) (e : Event)
+        → IsValidPart spec → IsRun spec journal → journal ≡ front ++ e ∷ back → is_load e ≡ true
+        → IsClean spec (state_of spec (front ++ e ∷ [])).domain }
+{}
+
+/// What follows the Load of a recovery depends on nothing else: after two such runs that end alike, the events that may
+/// follow one may follow the other, and lead to the same part.
+pub fn what_follows_a_restart_is_determined()
+    ensures { (spec : PartSpec) (a b more : List Event)
+        → IsValidPart spec → IsRestart spec a → IsRestart spec b → AreAlike (state_of spec a) (state_of spec b)
+        → IsRun spec (a ++ more) → IsRun spec (b ++ more) × (state_of spec (a ++ more) ≡ state_of spec (b ++ more)) }
+{}

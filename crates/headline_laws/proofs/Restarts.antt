@@ -50,8 +50,8 @@ use Rattle.part_defs.specs.Calls.{Stepped, after_admit, after_enter, after_invok
 use Rattle.part_defs.specs.Crossing.{Crossed, after_crossing, call_replied, closes_call, failed_crossing, fails, goes_on}
 use Rattle.part_defs.specs.Crossing.{is_accepted, is_last, kernel_call, next_mode, next_stage, refused_service}
 use Rattle.part_defs.specs.Crossing.{shadow_fault, shadow_replied, stage_in}
-use Rattle.part_defs.specs.Domain.{collected_domain, context_of, domain_burst, first_argument, loaded_domain}
-use Rattle.part_defs.specs.Domain.{opening_domain, second_argument, stopped_domain}
+use Rattle.part_defs.specs.Domain.{collected_domain, context_of, domain_burst, entered_domain, first_argument, loaded_domain}
+use Rattle.part_defs.specs.Domain.{opening_domain, plainly_entered, second_argument, stopped_domain}
 use Rattle.part_defs.specs.Log.{call_of_thread, next_replay, replay_after}
 use Rattle.part_defs.specs.Runs.{IsRun, IsRunFrom, event_of, state_after, state_from, state_of, step_of}
 use Rattle.part_defs.specs.Stages.{collects, gives_up_part, inits, is_given_up, loads_image, mode_after, replays_open}
@@ -70,8 +70,8 @@ use Rattle.part_laws.specs.Fit.{IsFit, IsFitSpec}
 use Rattle.part_laws.specs.Tied.{IsDriven, IsTied, is_driving, is_driving_stage}
 use Rattle.headline_laws.proofs.Fronts.{IsFrontOf, front_of, state_parts}
 use Rattle.headline_laws.proofs.Unchanged.{IsUnchanged, bad_of, bad_of_kind, step_leaves}
-use Rattle.headline_laws.specs.Restart.{AreAlike, IsClean, IsRestart, Kept, counts_of, domain_with, fresh_domain, is_load}
-use Rattle.headline_laws.specs.Restart.{kept_of, kind_with}
+use Rattle.headline_laws.specs.Restart.{AreAlike, IsClean, IsRestart, Kept, Survive, counts_of, domain_with, fresh_domain}
+use Rattle.headline_laws.specs.Restart.{is_load, is_renewing, kept_of, kind_with}
 
 -- Between a Stop and the next Init nothing runs, so each stage finds what the one before it left.
 
@@ -643,3 +643,108 @@ same_after spec a b more valid r s same run =
       run_joined (opening spec) b more s.run (subst (λ (p : PartState). IsRunFrom p more) e f.more),
       state_parts (opening spec) a more ∙ ap (λ (p : PartState). state_from p more) e ∙ sym (state_parts (opening spec) b more),
     )
+
+-- ---- what survives
+
+renewing_away : (m : Mode) → is_renewing m ≡ true → (is_running m ≡ false) × (is_driving m ≡ false)
+renewing_away (mode.Recovering stage.Stop) h = (refl, refl)
+renewing_away (mode.Recovering stage.Collect) h = (refl, refl)
+renewing_away (mode.Recovering stage.Reset) h = (refl, refl)
+renewing_away (mode.Recovering stage.Load) h = (refl, refl)
+renewing_away (mode.Recovering stage.Init) h = absurd cc
+renewing_away (mode.Recovering (stage.ReplaySet key value)) h = absurd cc
+renewing_away (mode.Recovering stage.ReplayOpen) h = absurd cc
+renewing_away (mode.Recovering stage.Resume) h = absurd cc
+renewing_away (mode.Boot s) h = absurd cc
+renewing_away mode.Running h = absurd cc
+renewing_away (mode.Dead done) h = absurd cc
+
+abbrev Leaves : PartState → Stepped → Type 0
+Leaves p t = Survive p.domain t.state.domain
+
+unharmed : (d : DomainState) → Survive d d
+unharmed d = record { objects = refl; medium = refl; counts = refl }
+
+reset_leaves : (registers : List ℕ) (k : DeviceKind)
+    → (medium_of (device_of registers (reset_kind k)) ≡ medium_of (device_of registers k))
+    × (counts_of (device_of registers (reset_kind k)) ≡ counts_of (device_of registers k))
+reset_leaves registers (kind.Disk k) = (refl, refl)
+reset_leaves registers (kind.Link k) = (refl, refl)
+reset_leaves registers kind.Speaker = (refl, refl)
+
+arrival_leaves : (frame registers : List ℕ) (k : DeviceKind)
+    → (medium_of (device_of registers (kind_with_arrival frame k)) ≡ medium_of (device_of registers k))
+    × (counts_of (device_of registers (kind_with_arrival frame k)) ≡ counts_of (device_of registers k))
+arrival_leaves frame registers (kind.Disk k) = (refl, refl)
+arrival_leaves frame registers (kind.Link k) = (refl, refl)
+arrival_leaves frame registers kind.Speaker = (refl, refl)
+
+ended_by : (n : ℕ) (a b y : List ℕ) → length a + length b ≡ n → drop n (a ++ (b ++ y)) ≡ y
+ended_by n a b y h = ap (drop n) (sym (append_assoc a b y)) ∙ drop_at (a ++ b) y n (length-append a b ∙ h)
+
+loaded_leaves : (spec : PartSpec) (memory : List ℕ) → IsFitSpec spec → drop 7360 (loaded_memory spec.image memory) ≡ drop 7360 memory
+unfolding loaded_memory
+loaded_leaves spec memory s =
+    let t : length (padded_words 2048 spec.image.text) ≡ 2048 = length-padded_words 2048 spec.image.text s.text in
+    let n : length (padded_words 5312 spec.image.initial) ≡ 5312 = length-padded_words 5312 spec.image.initial (omega (arith, s.initial)) in
+    ended_by 7360 (padded_words 2048 spec.image.text) (padded_words 5312 spec.image.initial) (drop 7360 memory) (omega arith)
+
+stage_leaves : (p : PartState) (s : Stage) → IsFitSpec p.spec → Leaves p (stage_done s p)
+unfolding stops gives_up_part collects resets loads_image inits replays_set replays_open resumes stopped_domain collected_domain loaded_domain plainly_entered entered_domain reset_device
+stage_leaves p stage.Stop fits = split (is_given_up p)
+    (λ e. rw e (record { objects = refl; medium = refl; counts = refl }))
+    (λ e. rw e (record { objects = refl; medium = refl; counts = refl }))
+stage_leaves p stage.Collect fits = record { objects = refl; medium = refl; counts = refl }
+stage_leaves p stage.Reset fits =
+    let r = reset_leaves p.domain.device.registers p.domain.device.kind in
+    record { objects = refl; medium = r.0; counts = r.1 }
+stage_leaves p stage.Load fits = record { objects = loaded_leaves p.spec p.domain.memory fits; medium = refl; counts = refl }
+stage_leaves p stage.Init fits = record { objects = refl; medium = refl; counts = refl }
+stage_leaves p (stage.ReplaySet key value) fits = record { objects = refl; medium = refl; counts = refl }
+stage_leaves p stage.ReplayOpen fits = record { objects = refl; medium = refl; counts = refl }
+stage_leaves p stage.Resume fits = unharmed p.domain
+
+stage_by_leaves : (p : PartState) (o : Option Stage) → IsFitSpec p.spec → Leaves p (stage_by p o)
+stage_by_leaves p None fits = unharmed p.domain
+stage_by_leaves p (Some s) fits = stage_leaves p s fits
+
+invoke_leaves : (p : PartState) (thread : ℕ) (o : Op) (a : Option Answer) → Leaves p (invoked_by p thread o a)
+invoke_leaves p thread o None = unharmed p.domain
+invoke_leaves p thread o (Some a) = unharmed p.domain
+
+no_burst : (p : PartState) (context : ℕ) → IsTied p → (is_running p.mode ≡ false) × (is_driving p.mode ≡ false)
+    → enabled p (step.Burst context) ≡ true → ⊥
+unfolding enabled
+no_burst p context tied away e = split (context == 16)
+    (λ own.
+    let driven : is_driven p ≡ true = rw own at e in
+    absurd cc (driven_drives p.mode (context_of 16 p.domain.contexts) tied.driven driven, away.1))
+    (λ other.
+    let runs : is_running p.mode ≡ true = (and_parts (is_running p.mode) (is_inside (call_of_thread context p.log.pending)) (rw other at e)).0 in
+    absurd cc (runs, away.0))
+
+no_enter : (p : PartState) (thread : ℕ) → is_running p.mode ≡ false → enabled p (step.Enter thread) ≡ true → ⊥
+unfolding enabled
+no_enter p thread away e =
+    let runs : is_running p.mode ≡ true = (and_parts (is_running p.mode) (is_ready p (call_of_thread thread p.log.pending)) e).0 in
+    absurd cc (runs, away)
+
+step_survives : (p : PartState) (s : Step) → IsFit p → IsTied p → enabled p s ≡ true → is_renewing p.mode ≡ true
+    → Survive p.domain (state_after p s).domain
+unfolding stepped after_invoke stage_stepped after_arrival with_arrival
+step_survives p (step.Invoke thread o) fit tied e h = invoke_leaves p thread o (static_check p.spec.class p.spec.blocks o)
+step_survives p (step.Enter thread) fit tied e h = absurd (no_enter p thread (renewing_away p.mode h).0 e)
+step_survives p (step.Burst context) fit tied e h = absurd (no_burst p context tied (renewing_away p.mode h) e)
+step_survives p step.Stage fit tied e h = stage_by_leaves p (stage_due p.mode) fit.spec
+step_survives p (step.Arrive frame) fit tied e h =
+    let a = arrival_leaves frame p.domain.device.registers p.domain.device.kind in
+    record { objects = refl; medium = a.0; counts = a.1 }
+
+pub run_survives : (spec : PartSpec) (journal front back : List Event) (e : Event) → IsValidPart spec → IsRun spec journal
+    → journal ≡ front ++ e ∷ back → is_renewing (state_of spec front).mode ≡ true
+    → Survive (state_of spec front).domain (state_of spec (front ++ e ∷ [])).domain
+unfolding IsRunFrom
+run_survives spec journal front back e valid run parts h =
+    let f = front_of spec journal front (e ∷ back) (valid_fits spec valid) run parts in
+    subst (λ (q : PartState). Survive (state_of spec front).domain q.domain) (sym (one_further (opening spec) front e))
+    (step_survives (state_of spec front) (step_of e) f.fit f.tied f.more.0 h)

@@ -1,5 +1,5 @@
 use Rattle.std.specs.Prelude.{◌≡◌, ℕ, Bool, true, false, Option, List, [], ◌∷◌, ◌++◌, take, drop}
-use Rattle.nook_data.specs.Types.{CallEntry, DeviceKind, DeviceState, Event, PartSpec}
+use Rattle.nook_data.specs.Types.{CallEntry, DeviceKind, DeviceState, Event, Mode, PartSpec}
 use Rattle.nook_data.specs.declared.devices.DeviceKind.TheVariants as kind
 use Rattle.nook_data.specs.declared.memory_map.TheConstants.{BUFFERS_END}
 use Rattle.nook_data.specs.declared.steps.Event.TheVariants as event
@@ -59,6 +59,20 @@ IsClean spec d = d ≡ domain_with (kept_of d) (fresh_domain spec)
 abbrev pub is_load : Event → Bool
 is_load (event.Stage stage.Load answers released) = true
 is_load _ = false
+
+-- a recovery is between the failure and its Init
+abbrev pub is_renewing : Mode → Bool
+is_renewing (mode.Recovering stage.Stop) = true
+is_renewing (mode.Recovering stage.Collect) = true
+is_renewing (mode.Recovering stage.Reset) = true
+is_renewing (mode.Recovering stage.Load) = true
+is_renewing _ = false
+
+-- the kernel objects, a disk's blocks and their counts of commands are the same
+pub record Survive (before after : DomainState) : Type 0 where
+  pub objects : (kept_of after).objects ≡ (kept_of before).objects
+  pub medium : (kept_of after).medium ≡ (kept_of before).medium
+  pub counts : (kept_of after).counts ≡ (kept_of before).counts
 
 -- a run whose last event is the Load of a recovery
 pub record IsRestart (spec : PartSpec) (journal : List Event) : Type 0 where

@@ -4,7 +4,7 @@ ghost use Rattle.nook_data.specs.Valid.{IsValidPart};
 ghost use Rattle.nook_data.specs.declared.scenario.PartSpec.{PartSpec};
 ghost use Rattle.nook_data.specs.declared.steps.Event.{Event};
 ghost use Rattle.part_defs.specs.Runs.{IsRun, state_of};
-ghost use Rattle.headline_laws.specs.Restart.{AreAlike, IsClean, IsRestart, is_load};
+ghost use Rattle.headline_laws.specs.Restart.{AreAlike, IsClean, IsRestart, Survive, is_load, is_renewing};
 ghost use Rattle.std.specs.Prelude.{List, [], ◌∷◌, ◌++◌, ◌≡◌, true};
 
 /// After every Load of a run, that of the boot or that of a recovery, the domain is the one after the boot's Load, except
@@ -15,6 +15,15 @@ pub fn every_restart_is_clean()
     ensures { (spec : PartSpec) (journal front back : List Event) (e : Event)
         → IsValidPart spec → IsRun spec journal → journal ≡ front ++ e ∷ back → is_load e ≡ true
         → IsClean spec (state_of spec (front ++ e ∷ [])).domain }
+{}
+
+/// From a failure to the Load that follows it no event changes a kernel object, a block of a disk or a count of commands.
+/// So what a restarted driver finds there is what the failure left.
+pub fn medium_and_objects_survive_a_failure()
+    ensures { (spec : PartSpec) (journal front back : List Event) (e : Event)
+        → IsValidPart spec → IsRun spec journal → journal ≡ front ++ e ∷ back
+        → is_renewing (state_of spec front).mode ≡ true
+        → Survive (state_of spec front).domain (state_of spec (front ++ e ∷ [])).domain }
 {}
 
 /// What follows the Load of a recovery depends on nothing else: after two such runs that end alike, the events that may

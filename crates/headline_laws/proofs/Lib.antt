@@ -5,5 +5,6 @@ mod GivenUp
 mod Away
 mod Failing
 mod Unchanged
+mod Stopped
 mod Restarts
 pub mod Safe

@@ -1,5 +1,5 @@
-use Rattle.std.specs.Prelude.{◌≡◌, ℕ, Bool, true, false, Option, List, [], ◌∷◌, ◌++◌, take, drop}
-use Rattle.nook_data.specs.Types.{CallEntry, DeviceKind, DeviceState, Event, Mode, PartSpec}
+use Rattle.std.specs.Prelude.{◌≡◌, ℕ, Bool, true, false, List, [], ◌∷◌, ◌++◌, take, drop}
+use Rattle.nook_data.specs.Types.{DeviceKind, DeviceState, Event, Mode, PartSpec}
 use Rattle.nook_data.specs.declared.devices.DeviceKind.TheVariants as kind
 use Rattle.nook_data.specs.declared.memory_map.TheConstants.{BUFFERS_END}
 use Rattle.nook_data.specs.declared.steps.Event.TheVariants as event
@@ -59,6 +59,11 @@ IsClean spec d = d ≡ domain_with (kept_of d) (fresh_domain spec)
 abbrev pub is_load : Event → Bool
 is_load (event.Stage stage.Load answers released) = true
 is_load _ = false
+
+-- the device is reset
+abbrev pub is_reset : Event → Bool
+is_reset (event.Stage stage.Reset answers released) = true
+is_reset _ = false
 
 -- a recovery is between the failure and its Init
 abbrev pub is_renewing : Mode → Bool

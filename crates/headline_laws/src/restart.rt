@@ -3,18 +3,23 @@
 ghost use Rattle.nook_data.specs.Valid.{IsValidPart};
 ghost use Rattle.nook_data.specs.declared.scenario.PartSpec.{PartSpec};
 ghost use Rattle.nook_data.specs.declared.steps.Event.{Event};
+ghost use Rattle.machine_defs.specs.Devices.{ring_of};
 ghost use Rattle.part_defs.specs.Runs.{IsRun, state_of};
-ghost use Rattle.headline_laws.specs.Restart.{AreAlike, IsClean, IsRestart, Survive, is_load, is_renewing};
+ghost use Rattle.headline_laws.specs.Restart.{AreAlike, IsClean, IsRestart, Survive, is_load, is_renewing, is_reset};
 ghost use Rattle.std.specs.Prelude.{List, [], ◌∷◌, ◌++◌, ◌≡◌, true};
 
 /// After every Load of a run, that of the boot or that of a recovery, the domain is the one after the boot's Load, except
 /// for the kernel objects, a disk's blocks and their counts of commands, and the frames in a link's ring. Whatever a
 /// driver did before it was stopped, none of its words is left in the text, the data, a stack or a buffer, it holds
-/// nothing, no context is Inside, and the device's registers have the defaults.
+/// nothing, no context is Inside, and the device's registers have the defaults. A Reset leaves no frame in the ring, so
+/// these arrived after it.
 pub fn every_restart_is_clean()
-    ensures { (spec : PartSpec) (journal front back : List Event) (e : Event)
+    ensures load { (spec : PartSpec) (journal front back : List Event) (e : Event)
         → IsValidPart spec → IsRun spec journal → journal ≡ front ++ e ∷ back → is_load e ≡ true
         → IsClean spec (state_of spec (front ++ e ∷ [])).domain }
+    ensures reset { (spec : PartSpec) (journal front back : List Event) (e : Event)
+        → IsValidPart spec → IsRun spec journal → journal ≡ front ++ e ∷ back → is_reset e ≡ true
+        → ring_of (state_of spec (front ++ e ∷ [])).domain.device ≡ [] }
 {}
 
 /// From a failure to the Load that follows it no event changes a kernel object, a block of a disk or a count of commands.

@@ -1,4 +1,4 @@
+pub mod Restart
 pub mod GivenUp
 pub mod Recoveries
 pub mod Headline
-pub mod Restart

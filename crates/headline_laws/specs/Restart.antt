@@ -50,8 +50,8 @@ domain_with kept d = record d {
   device = record d.device { kind = kind_with kept d.device.kind };
 }
 
--- text, data, stacks and buffers, the contexts, what the driver holds, and the device's registers, commands and buffers
--- are those after the Load of a boot
+-- except for what is kept, the domain is that after the Load of a boot: text, data, stacks and buffers, the contexts,
+-- the driver's entries, what it holds, and its device
 abbrev pub IsClean : PartSpec → DomainState → Type 0
 IsClean spec d = d ≡ domain_with (kept_of d) (fresh_domain spec)
 
@@ -88,9 +88,9 @@ pub record IsRestart (spec : PartSpec) (journal : List Event) : Type 0 where
   pub is_load : is_load load ≡ true
   pub recovering : (state_of spec front).mode ≡ mode.Recovering stage.Load
 
--- all that two parts have in common after a restart, if what follows is to be the same: what of the domain was kept,
--- the configuration last acknowledged, the thread that holds the stream, the open calls, the kernel's queue, and the
--- numbers of calls, failures, bursts and arrivals so far. A fault names its burst by that number
+-- two parts agree in all that a restart does not renew: what is kept of the domain, the configuration last
+-- acknowledged, the thread that holds the stream, the open calls, the kernel's queue, and how many calls, failures,
+-- bursts and arrivals there were. A call's answer, the limit, a fault and an arrival refer to these counts
 pub record AreAlike (p q : PartState) : Type 0 where
   pub kept : kept_of p.domain ≡ kept_of q.domain
   pub config : p.log.config ≡ q.log.config

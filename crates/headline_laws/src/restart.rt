@@ -9,10 +9,10 @@ ghost use Rattle.headline_laws.specs.Restart.{AreAlike, IsClean, IsRestart, Surv
 ghost use Rattle.std.specs.Prelude.{List, [], ◌∷◌, ◌++◌, ◌≡◌, true};
 
 /// After every Load of a run, that of the boot or that of a recovery, the domain is the one after the boot's Load, except
-/// for the kernel objects, a disk's blocks and their counts of commands, and the frames in a link's ring. Whatever a
-/// driver did before it was stopped, none of its words is left in the text, the data, a stack or a buffer, it holds
-/// nothing, no context is Inside, and the device's registers have the defaults. A Reset leaves no frame in the ring, so
-/// these arrived after it.
+/// for the kernel objects, a disk's blocks and their counts of commands, and the frames in a link's ring. So whatever the
+/// driver did before: text, data, stacks and buffers are the image and zeros, no context is Inside, the driver holds
+/// nothing and is not registered, and the device's registers have the defaults. A Reset leaves no frame in the ring, so
+/// those in it arrived later.
 pub fn every_restart_is_clean()
     ensures load { (spec : PartSpec) (journal front back : List Event) (e : Event)
         → IsValidPart spec → IsRun spec journal → journal ≡ front ++ e ∷ back → is_load e ≡ true

@@ -56,6 +56,11 @@ CHAPTERS = (
          "headline_laws/Durable", "headline_laws/GivenUp", "headline_laws/Recoveries"),
     ),
     Chapter(
+        "Restarts",
+        "What a driver begins with after a recovery, and what a restart does not renew.",
+        ("headline_laws/Restart",),
+    ),
+    Chapter(
         "The guard",
         "Where a driver is stopped before a deed that would break its contract.",
         ("guard_defs/Deeds", "guard_defs/Turns", "guard_defs/Guard", "guard_defs/GuardedRuns", "guard_defs/FirstBreaks", "guard_defs/GuardText",

@@ -8,4 +8,7 @@ mod MediumStays
 mod Durable
 mod Away
 mod Failing
+mod Unchanged
+mod Stopped
+mod Restarts
 pub mod Safe

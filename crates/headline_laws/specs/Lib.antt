@@ -1,3 +1,4 @@
+pub mod Restart
 pub mod GivenUp
 pub mod Recoveries
 pub mod Durable

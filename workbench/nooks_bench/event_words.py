@@ -63,7 +63,7 @@ class Sentences:
         return self.stage(event, after) if event.kind == "stage" else arrived(event)
 
     def invoke(self, event: Event, after: PartState) -> str:
-        prefix = f"{self.name(event.context)} asks for {short(event.text)}. Call c{event.call} is "
+        prefix = f"{self.name(event.context)} invokes {short(event.text)}. Call c{event.call} is "
         call = after.call(event.call)
         if event.answer is None and call:
             return f"{prefix}held {waits_for(call, after)}."
@@ -89,9 +89,9 @@ class Sentences:
     def end(self, event: Event) -> str:
         """How a burst ended."""
         if event.burst in self.guarded:
-            return "The guard STOPS it: a failure like any other."
+            return "The guard stops it: a failure like any other."
         if event.cause:
-            return f"It FAILS: {cause_words(event.cause)} ({event.cause})."
+            return f"It fails: {cause_words(event.cause)} ({event.cause})."
         if event.answer is not None:
             by = f"c{event.call} is answered {BY_DRIVER}"
             return f"It replies {event.text.split(' ')[1]}, and {by}: {short(event.answer)}."

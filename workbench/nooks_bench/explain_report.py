@@ -70,17 +70,21 @@ def failure_lines(part: Part) -> list[str]:
 
 
 def recovery_lines(part: Part) -> list[str]:
-    """The events of each recovery, from the stop of the driver to its resume, and at which the part was given up."""
+    """The events of each recovery, from the stop of the driver to its resume, and at which the part was given up. A
+    driver may be stopped several times before it resumes; the stop after the failure past the limit gives the part
+    up."""
     lines: list[str] = []
-    stopped = 0
+    stopped = failures = 0
     for event in part.events:
+        failures += event.failed
         if event.kind == "stage" and event.text == "stop":
             stopped = stopped or event.number
+            if failures > part.limit:
+                about = f"{counted(failures, 'failure')}, and its limit is {part.limit}"
+                lines.append(f"given up at event {event.number}: {about}")
         if event.kind == "stage" and event.text == "resume" and stopped:
             lines.append(f"recovered from event {stopped} to {event.number}")
             stopped = 0
-    if part.given_up:
-        lines.append(f"given up at event {stopped}: {counted(part.failures, 'failure')}, and its limit is {part.limit}")
     return lines
 
 

@@ -3,6 +3,7 @@
 import json
 import os
 import re
+import tempfile
 import unittest
 
 from common import TOP, bench, example, example_path, example_text, file_of, program
@@ -93,6 +94,56 @@ class Explains(unittest.TestCase):
     def test_an_input_error_needs_its_input(self):
         with file_of("fault 1 not_json /\n", ".line") as path:
             self.assertEqual(bench("explain", path)[0], 2)
+
+
+LOOPS = ".class block\n" + "".join(f".entry {name} a\n" for name in ("init", "read", "write", "get", "set")) + "a: JMP a\n"
+
+
+def given_up_at(report: str) -> list[int]:
+    """The events that gave a part up, by the lines of a report: a stop that answers an open call with gone."""
+    return [int(number) for number in re.findall(r"(?m)^(\d+) stage stop(?: -> c\d+ \S+(?: \[\S*\])?)* -> c\d+ gone \d+\b", report)]
+
+
+class GivenUp(unittest.TestCase):
+    """A driver that fails again before it serves calls is stopped several times before its part is given up."""
+
+    def check(self, scenario: dict, limit: int) -> None:
+        report = program().report(scenario)
+        expected = given_up_at(report)
+        self.assertEqual(len(expected), 1)
+        line = f"given up at event {expected[0]}: {limit + 1} failure{'s' if limit else ''}, and its limit is {limit}"
+        with file_of(report, ".report") as path:
+            _, out, _ = bench("explain", path)
+        self.assertEqual([each.strip() for each in out.split("\n") if "given up at" in each], [line])
+        with file_of(scenario) as path:
+            _, page, _ = bench("page", path)
+        data = json.loads(re.search(r'<script type="application/json" id="data">(.*?)</script>', page, re.DOTALL)[1])
+        self.assertEqual([each for each in data["parts"][0]["summary"] if "given up at" in each], [line])
+
+    def test_a_driver_that_loops_from_its_start(self):
+        with tempfile.TemporaryDirectory() as folder:
+            driver, made = os.path.join(folder, "loop.asm"), os.path.join(folder, "loop.jsonc")
+            with open(driver, "w", encoding="utf-8") as file:
+                file.write(LOOPS)
+            found = []
+            for limit in (0, 1, 2, 16):
+                self.assertEqual(bench("gen", driver, "--ops", "4", "--limit", str(limit), "-o", made)[0], 0)
+                scenario = json.loads(bench("build", made)[1])
+                self.check(scenario, limit)
+                found += given_up_at(program().report(scenario))
+        self.assertEqual(found, [6, 12, 18, 102])
+
+    def test_a_driver_that_serves_in_between(self):
+        """Recoveries that ended keep their lines, and only the last stop gives the part up."""
+        scenario = example("given-up.json")
+        limit = scenario["parts"][0]["limit"]
+        report = program().report(scenario)
+        self.assertGreater(len(re.findall(r"(?m)^\d+ stage resume", report)), 1)
+        self.check(scenario, limit)
+        with file_of(report, ".report") as path:
+            _, out, _ = bench("explain", path)
+        stops = [int(number) for number in re.findall(r"(?m)^(\d+) stage stop", report)]
+        self.assertEqual([int(number) for number in re.findall(r"recovered from event (\d+) to", out)], stops[:-1])
 
 
 class Words(unittest.TestCase):

@@ -73,12 +73,12 @@ class Pages(unittest.TestCase):
     def test_words(self):
         part = data_of(page_of(WRITE_CUT))["parts"][0]
         words = [each[0] for each in part["events"]]
-        self.assertEqual(words[13], "reader asks for get 1. Call c4 is held until it enters.")
+        self.assertEqual(words[13], "reader invokes get 1. Call c4 is held until it enters.")
         self.assertEqual(words[14], "The driver works 205 instructions for writer's c3 write 9 [11 x16, 12 x16, 13 x16]: store 9 [11 x16], "
-                                    "store 10 [12 x16]. It FAILS: a fault of the scenario stopped it (trap injected).")
+                                    "store 10 [12 x16]. It fails: a fault of the scenario stopped it (trap injected).")
         self.assertEqual(words[15], "The driver is stopped: all of its contexts end. c4 is answered by the shadow: value 6. "
                                     "c3 write 9 [11 x16, 12 x16, 13 x16] is held.")
-        self.assertEqual(words[16], "reader asks for get 1. Call c5 is answered by the shadow: value 6.")
+        self.assertEqual(words[16], "reader invokes get 1. Call c5 is answered by the shadow: value 6.")
         self.assertEqual(words[24], "The shadow enters the driver at its set, to bring register 1 back to 6.")
         self.assertIn("its try 2: it starts from the beginning", words[27])
         self.assertEqual(part["events"][14][3], [["fault", "A fault of the scenario struck here: fault 0: trap after 205 instructions of burst 5."]])
@@ -118,8 +118,8 @@ class Pages(unittest.TestCase):
         """The burst that the guard stopped is shown next to the driver's text, and says who stopped it."""
         data = data_of(page_of(example_path("sends-twice.json"), "--guard"))
         part = data["parts"][0]
-        words = [words for words, *_ in part["events"] if "STOPS" in words]
-        self.assertEqual(words, ["The driver works 16 instructions for app's c3 send [911, 7]: sent [911, 7]. The guard STOPS it: a failure like any other."])
+        words = [words for words, *_ in part["events"] if "guard stops" in words]
+        self.assertEqual(words, ["The driver works 16 instructions for app's c3 send [911, 7]: sent [911, 7]. The guard stops it: a failure like any other."])
         self.assertEqual(part["lanes"]["faults"], {"17": ["G"]})
         burst = part["bursts"]["6"]
         self.assertEqual(burst["items"][-1], [0, 16, 'the guard stops the driver: by "sent [911, 7]" it would have sent a second frame in one send (clause 6)', True])

@@ -150,7 +150,7 @@ class InABrowser(unittest.TestCase):
     def test_addresses(self):
         self.open(example_path("write-cut.json"), "#p0e15")
         self.assertTrue(self.shown()["event"].startswith("event 15 "))
-        self.assertIn("FAILS", self.shown()["sentence"])
+        self.assertIn("It fails: ", self.shown()["sentence"])
         self.browser.value("location.hash = '#p0e17'; 0")
         self.browser.value(DRAWN)
         self.assertIn(BY_SHADOW, self.shown()["sentence"])

@@ -184,7 +184,7 @@ class Served(unittest.TestCase):
         self.browser.press("Home")
         self.browser.press("n")
         self.assertIn("The guard stopped the driver here", self.text(".said"))
-        self.assertIn("The guard STOPS it", self.text(".sentence"))
+        self.assertIn("The guard stops it", self.text(".sentence"))
         self.assertIn("after 16 the guard stops the driver", self.text(".items .chosen"))
         self.assertIn("BNE r5 r4", self.text(".items"))
         self.assertEqual(self.browser.value("document.querySelector('.run').textContent.includes('CONTRACT BROKEN')"), False)

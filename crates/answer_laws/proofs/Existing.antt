@@ -32,7 +32,7 @@ use Rattle.nooks.proofs.Guards.{guard_reported, guardable_parts}
 use Rattle.nooks.proofs.Reports.{run_status}
 use Rattle.nooks.proofs.Safety.{all_safe}
 use Rattle.nooks.proofs.Traces.{is_trace_of}
-use Rattle.nooks.specs.Answers.{IsAsmOf, IsAuditOf, IsExploration, IsExploredOf, IsExploredStatus, IsFaultOf, IsGuardOf, IsGuardReport, IsGuardedOf, IsImageOf, IsRefusalLine, IsReportOf}
+use Rattle.nooks.specs.Answers.{IsAsmOf, IsAuditOf, IsExploration, IsExploredOf, IsExploredStatus, IsFaultOf, IsGuardOf, IsGuardReport, IsGuardedOf, IsGuardedText, IsImageOf, IsRefusalLine, IsReportOf}
 use Rattle.nooks.specs.Answers.{IsReported, IsScheduled, IsSummary, IsTableOf, IsTraceOf, IsWhole, Left, listing_from, verdict_status}
 use Rattle.nooks.specs.Guardable.{guardable_from}
 use Rattle.nooks.specs.Texts.{at_root, bad_header_text, no_such_burst_text, verdict_text}
@@ -47,6 +47,7 @@ use Rattle.run_defs.specs.Generated.{generated}
 use Rattle.run_defs.specs.Simulation.{IsScheduledRun, Simulation, answer_table, begins, journals_of}
 use Rattle.run_laws.proofs.Reached.{parts_answered}
 use Rattle.scenario_gen.proofs.Limits.{generated_is_valid}
+use Rattle.scenario_write.proofs.ComesBack.{line_back}
 use Rattle.scenario_write.specs.ScenarioText.{scenario_line}
 use Rattle.sim_run.proofs.Ending.{runs_scheduled, scheduled_ends}
 use Rattle.sim_run.specs.Published.{published}
@@ -216,32 +217,66 @@ guard_exists guarded bytes hearing = read_exists (guardable_from bytes) (IsGuard
         (λ text status reported. record { scenario = scenario; reading = is; room = read.1; reported = reported })
         (guard_report_exists scenario hearing made.0 made.1)
 
+-- the guarded scenario of a scenario, whose text is short enough to be written, or too long
+guarded_given : (bytes : List ℕ) (scenario : Scenario) (text : List ℕ) (long : Bool) → guardable_from bytes ≡ Ok scenario
+    → All HasRoom scenario.parts → IsGuardedText scenario text → nat_lt (limit_of form.Run) (length text) ≡ long
+    → HasAnswer (IsFaultOr (IsFaultOf form.GuardScenario bytes) (IsDone (IsGuardedOf bytes)))
+guarded_given bytes scenario text true reading room is long = (
+  fault_line (at_root fault.TooMany),
+  (
+    ended.BadInput,
+    inl (
+      inr (record {
+        scenario = scenario;
+        reading = reading;
+        too_long = record {
+          line = text;
+          is_line = is;
+          long = ltb-true (limit_of form.Run) (length text) long;
+          text_is = refl;
+        };
+      }),
+      refl,
+    ),
+  ),
+)
+guarded_given bytes scenario text false reading room is long = (
+  text,
+  (
+    ended.Done,
+    inr (
+      record {
+        scenario = scenario;
+        reading = reading;
+        room = room;
+        line = (is, ltb-false (limit_of form.Run) (length text) long);
+      },
+      refl,
+    ),
+  ),
+)
+
+guarded_text_of : (scenario : Scenario) (made : Guarded) → IsGuarded scenario made → IsGuardedText scenario (scenario_line made.scenario)
+guarded_text_of scenario made is = record {
+  guarded = made.scenario;
+  is_guarded = record { simulation = is.simulation; run = is.guarded; same = is.same };
+  text_is = refl;
+  back = line_back made.scenario is.valid;
+}
+
 pub guarded_exists : AllGuarded → (bytes : List ℕ)
-    → HasAnswer (IsFaultOr (IsRefusalLine (guardable_from bytes)) (IsDone (IsGuardedOf bytes)))
-guarded_exists guarded bytes = read_exists (guardable_from bytes) (IsDone (IsGuardedOf bytes)) by_scenario
+    → HasAnswer (IsFaultOr (IsFaultOf form.GuardScenario bytes) (IsDone (IsGuardedOf bytes)))
+guarded_exists guarded bytes =
+    either_exists (guardable_from bytes) (IsFaultOf form.GuardScenario bytes) (IsDone (IsGuardedOf bytes)) (λ text line. inl line) by_scenario
   where
-    by_scenario : (scenario : Scenario) → guardable_from bytes ≡ Ok scenario → HasAnswer (IsDone (IsGuardedOf bytes))
+    by_scenario : (scenario : Scenario) → guardable_from bytes ≡ Ok scenario
+        → HasAnswer (IsFaultOr (IsFaultOf form.GuardScenario bytes) (IsDone (IsGuardedOf bytes)))
     by_scenario scenario is =
         let read = guardable_parts (scenario_from bytes) scenario is in
-        let made = guarded scenario (scenario_valid bytes scenario read.0) read.1 in (
-          scenario_line made.0.scenario,
-          (
-            ended.Done,
-            (
-              record {
-                scenario = scenario;
-                reading = is;
-                room = read.1;
-                line = record {
-                  guarded = made.0.scenario;
-                  is_guarded = record { simulation = made.1.simulation; run = made.1.guarded; same = made.1.same };
-                  text_is = refl;
-                };
-              },
-              refl,
-            ),
-          ),
-        )
+        let made = guarded scenario (scenario_valid bytes scenario read.0) read.1 in
+        let text : List ℕ = scenario_line made.0.scenario in
+        guarded_given bytes scenario text (nat_lt (limit_of form.Run) (length text)) is read.1
+        (guarded_text_of scenario made.0 made.1) refl
 
 -- ---- every order of the steps
 

@@ -26,7 +26,7 @@ use Rattle.nook_data.specs.declared.scenario.Scenario.{Scenario}
 use Rattle.nook_data.specs.declared.steps.Event.{Event}
 use Rattle.nook_io.specs.Listening.{Listening, heard_events, tap_result}
 use Rattle.campaign_laws.proofs.Traps.{traps_once}
-use Rattle.nooks.specs.Answers.{IsAsmOf, IsAuditOf, IsFaultOf, IsGuardOf, IsGuardReport, IsGuardedLine, IsGuardedOf}
+use Rattle.nooks.specs.Answers.{IsAsmOf, IsAuditOf, IsFaultOf, IsGuardOf, IsGuardReport, IsGuardedOf, IsGuardedText}
 use Rattle.nooks.specs.Answers.{IsImageOf, IsMember, IsRefusalLine, IsReportOf}
 use Rattle.nooks.specs.Answers.{IsReportStatus, IsReported, IsScenarioFault, IsScheduled, IsSummary, IsTableOf, IsTraceOf, IsVerdict, Left, listing_from, verdict_status}
 use Rattle.nooks.specs.Guardable.{guardable_from}
@@ -158,8 +158,8 @@ guard_report_once scenario hearing text other status end a b =
           ∙ (ap status_by same.1 ∙ sym (reported_status (status_of b.guarded.parts b.left.journals) end b.status_is)),
     )
 
-guarded_line_once : (scenario : Scenario) (text other : List ℕ) → IsGuardedLine scenario text → IsGuardedLine scenario other → text ≡ other
-guarded_line_once scenario text other a b =
+guarded_text_once : (scenario : Scenario) (text other : List ℕ) → IsGuardedText scenario text → IsGuardedText scenario other → text ≡ other
+guarded_text_once scenario text other a b =
     a.text_is ∙ (ap scenario_line (guarded_once scenario a.guarded b.guarded a.is_guarded b.is_guarded) ∙ sym b.text_is)
 
 -- ---- each subcommand
@@ -248,7 +248,7 @@ guarded_run_once bytes hearing text other status end a b =
 guarded_of_once : (bytes text other : List ℕ) → IsGuardedOf bytes text → IsGuardedOf bytes other → text ≡ other
 guarded_of_once bytes text other a b =
     let same = ok_once (guardable_from bytes) a.scenario b.scenario a.reading b.reading in
-    guarded_line_once b.scenario text other (subst (λ s. IsGuardedLine s text) same a.line) b.line
+    guarded_text_once b.scenario text other (subst (λ s. IsGuardedText s text) same a.line.0) b.line.0
 
 -- ---- input errors
 
@@ -290,6 +290,22 @@ trace_has_no_fault : {P : Type 0} (bytes : List ℕ) (part burst : ℕ) (text ot
 trace_has_no_fault bytes part burst text other a (inl b) = not_both (scenario_from bytes) a.scenario b.refusal a.reading b.is
 trace_has_no_fault bytes part burst text other a (inr b) =
     not_none None text (traces_once bytes part burst a.scenario b.scenario (Some text) None a.reading b.reading a.trace b.none) refl
+
+guarded_fault_once : (bytes text other : List ℕ) → IsFaultOf form.GuardScenario bytes text → IsFaultOf form.GuardScenario bytes other
+    → text ≡ other
+guarded_fault_once bytes text other (inl a) (inl b) = refusal_once (guardable_from bytes) text other a b
+guarded_fault_once bytes text other (inl a) (inr b) = not_both (guardable_from bytes) b.scenario a.refusal b.reading a.is
+guarded_fault_once bytes text other (inr a) (inl b) = not_both (guardable_from bytes) a.scenario b.refusal a.reading b.is
+guarded_fault_once bytes text other (inr a) (inr b) = a.too_long.text_is ∙ sym b.too_long.text_is
+
+guarded_has_no_fault : {P : Type 0} (bytes text other : List ℕ) → IsGuardedOf bytes text → IsFaultOf form.GuardScenario bytes other → P
+guarded_has_no_fault bytes text other a (inl b) = not_both (guardable_from bytes) a.scenario b.refusal a.reading b.is
+guarded_has_no_fault bytes text other a (inr b) =
+    let scenario = ok_once (guardable_from bytes) a.scenario b.scenario a.reading b.reading in
+    let same = guarded_text_once b.scenario text b.too_long.line (subst (λ s. IsGuardedText s text) scenario a.line.0) b.too_long.is_line in
+    let short : length text ≤ 1048576 = a.line.1 in
+    let long : 1048576 < length text = subst (λ t. 1048576 < length t) (sym same) b.too_long.long in
+    absurd (omega (arith, short, long))
 
 -- ---- answers
 
@@ -339,7 +355,8 @@ guard_once bytes hearing =
     read_once (guardable_from bytes) (IsGuardOf bytes hearing) (guarded_run_once bytes hearing)
     (λ text status is. (is.scenario, is.reading))
 
-pub guarded_scenario_once : (bytes : List ℕ) → HasOneAnswer (IsFaultOr (IsRefusalLine (guardable_from bytes)) (IsDone (IsGuardedOf bytes)))
+pub guarded_scenario_once : (bytes : List ℕ) → HasOneAnswer (IsFaultOr (IsFaultOf form.GuardScenario bytes) (IsDone (IsGuardedOf bytes)))
 guarded_scenario_once bytes =
-    read_once (guardable_from bytes) (IsDone (IsGuardedOf bytes)) (done_once (IsGuardedOf bytes) (guarded_of_once bytes))
-    (λ text status is. (is.0.scenario, is.0.reading))
+    either_once (IsFaultOf form.GuardScenario bytes) (IsDone (IsGuardedOf bytes)) (guarded_fault_once bytes)
+    (done_once (IsGuardedOf bytes) (guarded_of_once bytes))
+    (λ text other status is line. guarded_has_no_fault bytes text other is.0 line)

@@ -10,7 +10,9 @@ use Rattle.guard_defs.specs.GuardedRuns.{guarded_scenario, spec_of}
 use Rattle.guarded_run.specs.Guarded.{IsGuarded}
 use Rattle.guarded_run.specs.declared.guarded.Guarded.{Guarded}
 use Rattle.headline_laws.specs.Headline.{AreSafe, IsSafe}
+use Rattle.input_defs.specs.Faults.{fault_line}
 use Rattle.input_defs.specs.ScenarioReading.{scenario_from}
+use Rattle.input_defs.specs.declared.input.InputFault.TheVariants as fault
 use Rattle.input_defs.specs.declared.input.Refusal.{Refusal}
 use Rattle.nook_data.proofs.Options.{none_is_some}
 use Rattle.nook_data.specs.declared.memory.NoMemory.{NoMemory}
@@ -26,18 +28,21 @@ use Rattle.run_results.specs.Journals.{events_in}
 use Rattle.scenario_read.specs.Gives.{Fails}
 use Rattle.scenario_read.specs.declared.stop.ScenarioFault.{ScenarioFault}
 use Rattle.scenario_read.specs.declared.stop.ScenarioFault.TheVariants as stops
+use Rattle.scenario_write.proofs.ComesBack.{line_back}
 use Rattle.scenario_write.specs.ScenarioText.{scenario_line}
 use Rattle.sim_run.proofs.Ending.{scheduled_once}
 use Rattle.nooks.proofs.Reports.{run_status, reported_status, reported_writes}
 use Rattle.nooks.proofs.Written.{writes_more}
-use Rattle.nooks.specs.Answers.{AnswersInput, AreKept, IsGuardReport, IsGuardedLine, IsKept, IsReportStatus, IsScheduled, IsWhole, Left, Says}
+use Rattle.nooks.specs.Answers.{AnswersInput, AreKept, GivesGuarded, IsGuardReport, IsGuardedLine, IsGuardedText, IsKept, IsReportStatus, IsScheduled, IsWhole, Left, Says}
 use Rattle.nooks.specs.Endings.{IsBegun, Writes}
 use Rattle.nooks.specs.Guardable.{first_without_room, guardable, guardable_from, has_room, no_room, with_room}
 use Rattle.nooks.specs.Making.{IsGuardMade, ReportsStatus, left_of}
 use Rattle.nook_io.specs.Changes.{Change}
 use Rattle.nooks.specs.Streams.{Gains, GainsFront, Whole}
+use Rattle.nooks.specs.Texts.{at_root}
 use Rattle.nooks.specs.declared.program.Status.{Status}
 use Rattle.nooks.specs.declared.program.Status.TheVariants as ended
+use Rattle.command_forms.specs.Forms.{limit_of}
 use Rattle.command_forms.specs.declared.words.Form.TheVariants as form
 
 -- ---- room
@@ -218,22 +223,34 @@ module _ (scenario : Scenario) (hearing : List Listening) (made : Guarded) (repo
 
 -- ---- the guarded scenario
 
--- the line of the guarded scenario, unless memory runs out
-pub line_of : (scenario : Scenario) (made : Guarded) (r : Result (List ℕ) NoMemory) → IsGuarded scenario made
-    → IfOk r (λ text. text ≡ scenario_line made.scenario) → IfOk r (IsGuardedLine scenario)
-line_of scenario made (Err e) is same = same
-line_of scenario made (Ok text) is same = record {
+-- the text of the guarded scenario, unless memory runs out
+pub text_of : (scenario : Scenario) (made : Guarded) (r : Result (List ℕ) NoMemory) → IsGuarded scenario made
+    → IfOk r (λ text. text ≡ scenario_line made.scenario) → IfOk r (IsGuardedText scenario)
+text_of scenario made (Err e) is same = same
+text_of scenario made (Ok text) is same = record {
   guarded = made.scenario;
   is_guarded = record { simulation = is.simulation; run = is.guarded; same = is.same };
   text_is = same;
+  back = subst (λ t. scenario_from t ≡ Ok made.scenario) (sym same) (line_back made.scenario is.valid);
 }
 
-pub line_written : (scenario : Scenario) (text said : List ℕ) (sink : Change) (status : Status) → IsGuardedLine scenario text
-    → said ≡ text → Writes (Says said ended.Done) sink status
-    → Writes (λ t s. IsGuardedLine scenario t × (s ≡ ended.Done)) sink status
-line_written scenario text said sink status line same ends =
-    writes_more (Says said ended.Done) (λ t s. IsGuardedLine scenario t × (s ≡ ended.Done)) sink status
-    (λ t s says. (subst (IsGuardedLine scenario) (sym (says.0 ∙ same)) line, says.1)) ends
+-- a text that `run` reads was written
+pub short_written : (scenario : Scenario) (text : List ℕ) (sink : Change) (status : Status) → IsGuardedText scenario text
+    → length text ≤ limit_of form.Run → Writes (Says text ended.Done) sink status → Writes (GivesGuarded scenario) sink status
+short_written scenario text sink status is short ends =
+    writes_more (Says text ended.Done) (GivesGuarded scenario) sink status
+    (λ t s says. inl (subst (IsGuardedLine scenario) (sym says.0) (is, short), says.1)) ends
+
+-- a longer text was refused
+pub long_refused : (scenario : Scenario) (text : List ℕ) (refusal : Refusal) (sink : Change) (status : Status)
+    → IsGuardedText scenario text → limit_of form.Run < length text → refusal ≡ at_root fault.TooMany
+    → Writes (Says (fault_line refusal) ended.BadInput) sink status → Writes (GivesGuarded scenario) sink status
+long_refused scenario text refusal sink status is long root ends =
+    writes_more (Says (fault_line refusal) ended.BadInput) (GivesGuarded scenario) sink status
+    (λ t s says. inr (
+      record { line = text; is_line = is; long = long; text_is = says.0 ∙ ap fault_line root },
+      says.1,
+    )) ends
 
 -- ---- the answer to the bytes
 
@@ -245,9 +262,12 @@ guard_answers bytes scenario hearing sink status reading room ends =
     (λ text s reported. inr (record { scenario = scenario; reading = reading; room = room; reported = reported })) ends
 
 pub guarded_answers : (bytes : List ℕ) (scenario : Scenario) (hearing : List Listening) (sink : Change) (status : Status)
-    → guardable_from bytes ≡ Ok scenario → All HasRoom scenario.parts
-    → Writes (λ text s. IsGuardedLine scenario text × (s ≡ ended.Done)) sink status
+    → guardable_from bytes ≡ Ok scenario → All HasRoom scenario.parts → Writes (GivesGuarded scenario) sink status
     → Writes (AnswersInput form.GuardScenario (Whole bytes) hearing) sink status
 guarded_answers bytes scenario hearing sink status reading room ends =
-    writes_more (λ text s. IsGuardedLine scenario text × (s ≡ ended.Done)) (AnswersInput form.GuardScenario (Whole bytes) hearing) sink status
-    (λ text s line. inr (record { scenario = scenario; reading = reading; room = room; line = line.0 }, line.1)) ends
+    writes_more (GivesGuarded scenario) (AnswersInput form.GuardScenario (Whole bytes) hearing) sink status by_text ends
+  where
+    by_text : (text : List ℕ) (s : Status) → GivesGuarded scenario text s
+        → AnswersInput form.GuardScenario (Whole bytes) hearing text s
+    by_text text s (inl line) = inr (record { scenario = scenario; reading = reading; room = room; line = line.0 }, line.1)
+    by_text text s (inr long) = inl (inr (record { scenario = scenario; reading = reading; too_long = long.0 }), long.1)

@@ -256,11 +256,28 @@ pub record IsGuardReport (scenario : Scenario) (hearing : List Listening) (text 
   pub text_is : text ≡ guard_lines stops
       ++ report_text guarded left.journals left.answers left.taps (status_of guarded.parts left.journals)
 
--- the line of a scenario's guarded scenario
-pub record IsGuardedLine (scenario : Scenario) (text : List ℕ) : Type 0 where
+-- the text of a scenario's guarded scenario, from which reading gives that back
+pub record IsGuardedText (scenario : Scenario) (text : List ℕ) : Type 0 where
   pub guarded : Scenario
   pub is_guarded : IsGuardedScenario scenario guarded
   pub text_is : text ≡ scenario_line guarded
+  pub back : scenario_from text ≡ Ok guarded
+
+-- it is written if `run` reads as many bytes
+abbrev pub IsGuardedLine : Scenario → List ℕ → Type 0
+IsGuardedLine scenario text = IsGuardedText scenario text × (length text ≤ limit_of form.Run)
+
+-- else it is refused as an input of that length is
+pub record IsGuardedTooLong (scenario : Scenario) (text : List ℕ) : Type 0 where
+  pub line : List ℕ
+  pub is_line : IsGuardedText scenario line
+  pub long : limit_of form.Run < length line
+  pub text_is : text ≡ fault_line (at_root fault.TooMany)
+
+-- what is written of a scenario's guarded scenario, and the status
+abbrev pub GivesGuarded : Scenario → List ℕ → Status → Type 0
+GivesGuarded scenario text status =
+    (IsGuardedLine scenario text × (status ≡ ended.Done)) ⊎ (IsGuardedTooLong scenario text × (status ≡ ended.BadInput))
 
 -- the report of the guarded run of the scenario in some bytes, each part of which has room for its traps
 pub record IsGuardOf (bytes : List ℕ) (hearing : List Listening) (text : List ℕ) (status : Status) : Type 0 where
@@ -395,6 +412,12 @@ pub record HasNoBurst (bytes : List ℕ) (part burst : ℕ) (text : List ℕ) : 
   pub none : IsTraceText scenario part burst None
   pub text_is : text ≡ no_such_burst_text
 
+-- some bytes have a scenario whose guarded scenario is longer than what `run` reads
+pub record HasLongGuarded (bytes text : List ℕ) : Type 0 where
+  pub scenario : Scenario
+  pub reading : guardable_from bytes ≡ Ok scenario
+  pub too_long : IsGuardedTooLong scenario text
+
 -- the line of the first input error in some bytes
 abbrev pub IsFaultOf : Form → List ℕ → List ℕ → Type 0
 IsFaultOf form.Run bytes text = IsRefusalLine (scenario_from bytes) text
@@ -408,7 +431,7 @@ IsFaultOf form.List bytes text = IsRefusalLine (listing_from bytes) text
 IsFaultOf (form.Trace part burst) bytes text =
     IsRefusalLine (scenario_from bytes) text ⊎ HasNoBurst bytes part burst text
 IsFaultOf form.Guard bytes text = IsRefusalLine (guardable_from bytes) text
-IsFaultOf form.GuardScenario bytes text = IsRefusalLine (guardable_from bytes) text
+IsFaultOf form.GuardScenario bytes text = IsRefusalLine (guardable_from bytes) text ⊎ HasLongGuarded bytes text
 IsFaultOf form.Explore bytes text = IsRefusalLine (scenario_from bytes) text
 IsFaultOf asked bytes text = ⊥
 

@@ -5,7 +5,7 @@ ghost use Rattle.guard_defs.specs.Guard.{HasRoom};
 ghost use Rattle.guard_defs.specs.GuardText.{guard_line, guard_lines};
 ghost use Rattle.nook_data.specs.Valid.{IsValidScenario};
 ghost use Rattle.nook_io.specs.Listening.{Listening};
-ghost use Rattle.nooks.specs.Answers.{AnswersInput, IsGuardReport, IsGuardedLine};
+ghost use Rattle.nooks.specs.Answers.{AnswersInput, GivesGuarded, IsGuardReport, IsGuardedText};
 ghost use Rattle.nooks.specs.Endings.{Writes};
 ghost use Rattle.nooks.specs.Guardable.{first_without_room, guardable_from, has_room, no_room};
 ghost use Rattle.nooks.specs.Making.{IsGuardMade};
@@ -18,9 +18,9 @@ ghost use Rattle.report_text.specs.Writing.{Wrote};
 ghost use Rattle.request_taps.specs.Bus.{seen, settled};
 ghost use Rattle.scenario_read.specs.Gives.{Gives};
 
-use crate::answering::{bus_of, refuse_for};
+use crate::answering::{at_root, bus_of, refuse, refuse_for};
 use crate::heard::Heard;
-use crate::program::{Status, finish};
+use crate::program::{LIMIT, Status, finish};
 use crate::simulated::{judge_run, status_of};
 use asm_defs::keys::Key;
 use command_forms::Form;
@@ -67,7 +67,7 @@ where
     }
 }
 
-/// Guards the scenario in some bytes, and writes the guarded one.
+/// Guards the scenario in some bytes, and writes the guarded one, unless its text is longer than what `run` reads.
 pub fn run_guard_scenario<K: Sink>(alloc: Global, bytes: &[u8], sink: &mut K) -> Status
     ensures ends { (hearing : List Listening)
         → Writes (AnswersInput Form.GuardScenario (Whole bytes.now) hearing)
@@ -261,23 +261,37 @@ fn push_guard_line(line: &mut Line, stop: &Stop) -> Result<(), NoMemory>
 fn give_guarded<K: Sink>(alloc: Global, scenario: &Scenario, sink: &mut K) -> Status
     requires valid { IsValidScenario scenario.now }
     requires room { All HasRoom scenario.now.parts }
-    ensures ends { Writes (λ text status. IsGuardedLine scenario.now text × (status ≡ Status.Done))
+    ensures ends { Writes (GivesGuarded scenario.now)
         (change K.held K.count sink.old sink.new) result }
     ensures later { K.count sink.old ≤ K.count sink.new }
     ensures kept { (result ≡ Status.WriteFault → ⊥) → K.count sink.new ≡ K.count sink.old }
 {
-    match guarded_line(alloc, scenario) {
-        Ok(text) => finish(sink, text.as_slice(), Status::Done),
+    match guarded_text(alloc, scenario) {
+        Ok(text) => give_text(alloc, text.as_slice(), sink),
         Err(NoMemory) => Status::NoMemory,
     }
 }
 
-/// The line of a scenario's guarded scenario.
-fn guarded_line(alloc: Global, scenario: &Scenario) -> Result<Words8, NoMemory>
+/// The text of a scenario's guarded scenario.
+fn guarded_text(alloc: Global, scenario: &Scenario) -> Result<Words8, NoMemory>
     requires valid { IsValidScenario scenario.now }
     requires room { All HasRoom scenario.now.parts }
-    ensures { IfOk result (IsGuardedLine scenario.now) }
+    ensures { IfOk result (IsGuardedText scenario.now) }
 {
     let guarded = guard_scenario(alloc, scenario)?;
     write_scenario_line(alloc, &guarded.scenario)
+}
+
+/// Writes the text of a guarded scenario, or refuses it if `run` would refuse to read that many bytes.
+fn give_text<K: Sink>(alloc: Global, text: &[u8], sink: &mut K) -> Status
+    ensures ends { (scenario : Scenario) → IsGuardedText scenario text.now
+        → Writes (GivesGuarded scenario) (change K.held K.count sink.old sink.new) result }
+    ensures later { K.count sink.old ≤ K.count sink.new }
+    ensures kept { (result ≡ Status.WriteFault → ⊥) → K.count sink.new ≡ K.count sink.old }
+{
+    if text.len() > LIMIT as usize {
+        refuse(alloc, sink, &at_root(alloc, InputFault::TooMany))
+    } else {
+        finish(sink, text, Status::Done)
+    }
 }

@@ -1,5 +1,0 @@
-use Rattle.nooks.proofs.Guards.{line_of}
-use Rattle.nooks.proofs.guarding.guarded_line.Goals as goal
-
-pub returns : goal.returns
-returns c = line_of c.args.scenario.now c.in_ok-guarded.guarded c.write_scenario_line.result c.in_ok-guarded.ensures c.write_scenario_line.ensures.text

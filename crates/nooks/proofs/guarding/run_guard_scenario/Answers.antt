@@ -1,3 +1,4 @@
+use Rattle.std.proofs.Common.{inl}
 use Rattle.nooks.specs.Guardable.{guardable_from}
 use Rattle.command_forms.specs.declared.words.Form.TheVariants as form
 use Rattle.nooks.proofs.Guards.{guarded_answers}
@@ -11,4 +12,4 @@ returns-in-Ok-clause-ends g c hearing =
 
 pub returns-in-Err-clause-ends : goal.returns-in-Err-clause-ends
 returns-in-Err-clause-ends g c hearing = refused form.GuardScenario c.args.bytes.now hearing _ (guardable_from c.args.bytes.now) c.in-Err.stop _
-    c.refuse_for.result (λ text is. is) c.in-Err.ensures.gives c.refuse_for.ensures.ends
+    c.refuse_for.result (λ text is. inl is) c.in-Err.ensures.gives c.refuse_for.ensures.ends

@@ -15,7 +15,7 @@ from typing import Any
 import inputs
 import running
 from running import EXAMPLES, Named, Results, run
-from subcommands import READING, STORED, UNKNOWN
+from subcommands import MOST_INPUT, READING, STORED, UNKNOWN
 
 RUNS = os.path.join(running.TOP, "checks/runs")
 
@@ -155,6 +155,56 @@ def check_campaigns(results: Results, whose: str, program: str) -> None:
         results.same(f"a campaign of {name} of {whose}", (ended.status, ended.out), (0, expected.encode()))
 
 
+# The instruction FAULT as assembler text and as a word of an image, and the most words of text.
+FAULT = ("FAULT\n", "18000000")
+MOST_TEXT = 2048
+
+
+def long_parts() -> tuple[list[dict[str, Any]], list[dict[str, Any]]]:
+    """Eight disks whose driver traps at once, as people write them and as the program does, which takes more bytes."""
+    entries = ["get", "init", "read", "set", "write"]
+    asm = ".class block\n" + "".join(f".entry {entry} f\n" for entry in entries) + "f: " + FAULT[0] * MOST_TEXT
+    image = {"class": "block", "data": [], "entries": dict.fromkeys(entries, 0), "text": [FAULT[1]] * MOST_TEXT}
+    given, written = [], []
+    for index in range(8):
+        part = {"name": f"d{index}", "class": "block", "blocks": 16}
+        given.append({**part, "driver": {"asm": asm}})
+        written.append({**part, "limit": 0, "driver": {"image": image}, "faults": []})
+    return given, written
+
+
+def writes_of(words: list[int]) -> list[dict[str, Any]]:
+    """Sixteen threads that write these words, 256 at a time, in turn."""
+    ops = [{"part": 0, "op": "write", "first": 0, "data": words[at : at + 256]} for at in range(0, len(words), 256)]
+    return [{"name": f"t{index}", "ops": ops[index::16]} for index in range(16)]
+
+
+def long_threads(size: int) -> list[dict[str, Any]]:
+    """Sixteen threads of `size` bytes, which write words of one to ten digits."""
+    whole = len(compact(writes_of([10**9] * 512))) - len(compact(writes_of([10**9] * 256)))
+    count = 256 * (size // whole + 1)
+    more = size - len(compact(writes_of([1] * count)))
+    return writes_of([10 ** min(max(more - 9 * index, 0), 9) for index in range(count)])
+
+
+def compact(value: object) -> str:
+    return json.dumps(value, separators=(",", ":"))
+
+
+def check_long_guarded(results: Results, whose: str, program: str) -> None:
+    """A guarded scenario is written up to the bytes that `run` reads, and refused with one more."""
+    given, written = long_parts()
+    around = {"version": 1, "schedule": {"kind": "round_robin"}, "parts": written, "threads": []}
+    for more in (0, 1):
+        threads = long_threads(MOST_INPUT + more - len(compact(around)) - len("\n") + len("[]"))
+        text = compact({**around, "threads": threads}) + "\n"
+        results.same(f"the bytes of a guarded scenario, {more} more than are read", len(text), MOST_INPUT + more)
+        ended = run(program, ["guard", "scenario"], compact({"version": 1, "parts": given, "threads": threads}).encode())
+        found = "written" if (ended.status, ended.out) == (0, text.encode()) else (ended.status, shown(ended.out))
+        expected = (3, repr(b"fault 6 too_many /\n")) if more else "written"
+        results.same(f"a guarded scenario of {len(text)} bytes of {whose}", found, expected)
+
+
 def shown(given: bytes) -> str:
     """An input in short: its end, where the tables differ."""
     return repr(given if len(given) < 120 else b".." + given[-120:])
@@ -167,6 +217,7 @@ CHECKS = [
     check_usage,
     check_generated,
     check_campaigns,
+    check_long_guarded,
 ]
 
 

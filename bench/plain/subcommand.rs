@@ -267,7 +267,13 @@ fn run_guarded(out: &mut impl Write) -> Result<u8, Stop> {
 fn write_guarded(out: &mut impl Write) -> Result<u8, Stop> {
     let mut scenario = read_guardable()?;
     guard::run(&mut scenario, |_, _| ());
-    write_scenario(&scenario, out)
+    let mut text = Vec::new();
+    scenario_text::write(&scenario, &mut text)?;
+    if text.len() > input::LONGEST {
+        Refusal::here(Cause::TooMany)?;
+    }
+    out.write_all(&text)?;
+    Ok(0)
 }
 
 /// Reads a scenario that has room for the traps of a guard.

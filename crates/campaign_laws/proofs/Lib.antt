@@ -1,4 +1,4 @@
-pub mod Statuses
+pub mod Alike
 pub mod Certified
 pub mod Struck
 pub mod ValidFaults

@@ -1,4 +1,4 @@
--- The laws of each subcommand: if it never waits it has an answer, and only one, but for `explore`.
+-- The laws of each subcommand: each has an answer, but for `mirror`; one that never waits has only one, but for `explore`.
 use Rattle.std.proofs.Common.{◌≡◌, ℕ, true, false, List, Option, Some, None, refl, sym, ◌∙◌, subst, true≢false}
 use Rattle.answer_laws.proofs.Answered.{HasAnswer, HasOneAnswer, answer_by, said_exists, said_once}
 use Rattle.answer_laws.proofs.Existing.{asm_exists, audit_exists, campaign_exists, dis_exists, explore_exists}
@@ -6,8 +6,9 @@ use Rattle.answer_laws.proofs.Existing.{guard_exists, guarded_exists, list_exist
 use Rattle.answer_laws.proofs.Guarding.{can_be_guarded}
 use Rattle.answer_laws.proofs.Once.{asm_once, audit_once, campaign_once, dis_once, guard_once, guarded_scenario_once}
 use Rattle.answer_laws.proofs.Once.{list_once, run_once, summary_once, trace_once}
+use Rattle.answer_laws.proofs.Threading.{threads_exist}
 use Rattle.command_forms.proofs.OneForm.{one_form}
-use Rattle.command_forms.specs.Forms.{AskAlone, AskOneAnswer, Asks, IsForm, has_one_answer, is_alone, is_reading}
+use Rattle.command_forms.specs.Forms.{AskOneAnswer, Asks, IsForm, has_one_answer, is_alone, is_reading}
 use Rattle.command_forms.specs.declared.words.Form.{Form}
 use Rattle.command_forms.specs.declared.words.Form.TheVariants as form
 use Rattle.input_defs.specs.Faults.{fault_line}
@@ -26,7 +27,7 @@ use Rattle.scenario_write.specs.ScenarioText.{scenario_line}
 
 pub record FormLaws (asked : Form) : Type 0 where
   pub exists : (words : List (List ℕ)) (input : Input) (hearing : List Listening) → IsForm words asked
-      → is_alone asked ≡ true → HasAnswer (Answers (Some asked) input hearing)
+      → (asked ≡ form.Mirror → ⊥) → HasAnswer (Answers (Some asked) input hearing)
   pub once : (input : Input) (hearing : List Listening) → has_one_answer asked ≡ true
       → HasOneAnswer (Answers (Some asked) input hearing)
   pub alone : is_alone asked ≡ true → (asked ≡ form.Explore → ⊥) → has_one_answer asked ≡ true
@@ -49,7 +50,7 @@ reading : (asked : Form) → is_reading asked ≡ true → has_one_answer asked 
     → ((bytes : List ℕ) (hearing : List Listening) → HasOneAnswer (AnswersInput asked (Whole bytes) hearing))
     → FormLaws asked
 reading asked reads single exists once = record {
-  exists = λ words input hearing is alone.
+  exists = λ words input hearing is other.
       subst (λ r. HasAnswer (AnswersBy r asked input hearing)) (sym reads) (input_exists asked exists input hearing);
   once = λ input hearing single.
       subst (λ r. HasOneAnswer (AnswersBy r asked input hearing)) (sym reads) (input_once asked once input hearing);
@@ -61,16 +62,19 @@ unread : (asked : Form) → is_reading asked ≡ false → has_one_answer asked 
     → ((words : List (List ℕ)) → IsForm words asked → HasAnswer (AnswersUnread asked))
     → HasOneAnswer (AnswersUnread asked) → FormLaws asked
 unread asked reads single exists once = record {
-  exists = λ words input hearing is alone.
+  exists = λ words input hearing is other.
       subst (λ r. HasAnswer (AnswersBy r asked input hearing)) (sym reads) (exists words is);
   once = λ input hearing single. subst (λ r. HasOneAnswer (AnswersBy r asked input hearing)) (sym reads) once;
   alone = λ alone other. single;
 }
 
 -- a subcommand that waits
-waiting : (asked : Form) → is_alone asked ≡ false → has_one_answer asked ≡ false → FormLaws asked
-waiting asked waits many = record {
-  exists = λ words input hearing is alone. absurd (true≢false (sym alone ∙ waits));
+waiting : (asked : Form) → is_alone asked ≡ false → has_one_answer asked ≡ false
+    → ((words : List (List ℕ)) (input : Input) (hearing : List Listening) → IsForm words asked → (asked ≡ form.Mirror → ⊥)
+    → HasAnswer (Answers (Some asked) input hearing))
+    → FormLaws asked
+waiting asked waits many exists = record {
+  exists = exists;
   once = λ input hearing single. absurd (true≢false (sym single ∙ many));
   alone = λ alone other. absurd (true≢false (sym alone ∙ waits));
 }
@@ -80,6 +84,7 @@ waiting asked waits many = record {
 pub form_laws : (asked : Form) → FormLaws asked
 form_laws form.Run = reading form.Run refl refl run_exists run_once
 form_laws form.RunThreads = waiting form.RunThreads refl refl
+    (λ words input hearing is other. input_exists form.RunThreads threads_exist input hearing)
 form_laws form.Asm = reading form.Asm refl refl (λ bytes hearing. asm_exists bytes) (λ bytes hearing. asm_once bytes)
 form_laws form.Dis = reading form.Dis refl refl (λ bytes hearing. dis_exists bytes) (λ bytes hearing. dis_once bytes)
 form_laws (form.Gen number) = unread (form.Gen number) refl refl
@@ -91,7 +96,7 @@ form_laws form.Audit = reading form.Audit refl refl
     (λ bytes hearing. audit_exists bytes) (λ bytes hearing. audit_once bytes)
 form_laws form.Campaign = reading form.Campaign refl refl
     (λ bytes hearing. campaign_exists bytes) (λ bytes hearing. campaign_once bytes)
-form_laws form.Mirror = waiting form.Mirror refl refl
+form_laws form.Mirror = waiting form.Mirror refl refl (λ words input hearing is other. absurd (other refl))
 form_laws form.List = reading form.List refl refl
     (λ bytes hearing. list_exists bytes) (λ bytes hearing. list_once bytes)
 form_laws (form.Trace part burst) = reading (form.Trace part burst) refl refl
@@ -100,7 +105,7 @@ form_laws form.Guard = reading form.Guard refl refl (guard_exists can_be_guarded
 form_laws form.GuardScenario = reading form.GuardScenario refl refl
     (λ bytes hearing. guarded_exists can_be_guarded bytes) (λ bytes hearing. guarded_scenario_once bytes)
 form_laws form.Explore = record {
-  exists = λ words input hearing is alone.
+  exists = λ words input hearing is other.
       input_exists form.Explore (λ bytes heard. explore_exists bytes) input hearing;
   once = λ input hearing single. absurd (true≢false (sym single));
   alone = λ alone other. absurd (other refl);
@@ -113,13 +118,13 @@ form_laws form.Version = unread form.Version refl refl
 -- ---- arguments
 
 pub words_exist : (words : List (List ℕ)) (asked : Option Form) (hearing : List Listening) (bytes : List ℕ)
-    → Asks words asked → AskAlone words → HasAnswer (AnswersBytes words hearing bytes)
-words_exist words None hearing bytes asks alone =
+    → Asks words asked → (IsForm words form.Mirror → ⊥) → HasAnswer (AnswersBytes words hearing bytes)
+words_exist words None hearing bytes asks other =
     (usage_text, (ended.Usage, record { asked = None; asks = asks; answer = (refl, refl) }))
-words_exist words (Some asked) hearing bytes asks alone =
+words_exist words (Some asked) hearing bytes asks other =
     answer_by (Answers (Some asked) (input_for (Some asked) bytes) hearing) (AnswersBytes words hearing bytes)
     (λ text status answer. record { asked = Some asked; asks = asks; answer = answer })
-    ((form_laws asked).exists words (input_for (Some asked) bytes) hearing asks (alone asked asks))
+    ((form_laws asked).exists words (input_for (Some asked) bytes) hearing asks (λ e. other (subst (IsForm words) e asks)))
 
 asked_once : (words : List (List ℕ)) (one two : Option Form) (hearing : List Listening) (bytes text other : List ℕ)
     (status end : Status) → AskOneAnswer words → Asks words one → Asks words two

@@ -8,3 +8,4 @@ pub mod Guarding
 pub mod Once
 pub mod SameRows
 pub mod Stops
+pub mod Threading

@@ -5,9 +5,9 @@
 
 ghost use Rattle.std.specs.Prelude.{◌≡◌, ℕ, true, List, None, Option, Some};
 ghost use Rattle.answer_laws.specs.Rows.{HaveSameRows, HasFollowedAll};
-ghost use Rattle.command_forms.specs.Forms.{AskAlone, AskOneAnswer, Asks, has_one_answer, is_alone};
+ghost use Rattle.command_forms.specs.Forms.{AskOneAnswer, Asks, IsForm, has_one_answer, is_alone};
 ghost use Rattle.command_forms.specs.declared.words.Form.{Form};
-ghost use Rattle.command_forms.specs.declared.words.Form.TheVariants.{Explore, RunThreads};
+ghost use Rattle.command_forms.specs.declared.words.Form.TheVariants.{Explore, Mirror, RunThreads};
 ghost use Rattle.explore_defs.specs.Explored.{IsExplored};
 ghost use Rattle.nook_data.specs.Valid.{IsValidScenario};
 ghost use Rattle.nook_data.specs.declared.scenario.Scenario.{Scenario};
@@ -49,11 +49,12 @@ pub fn every_exploration_has_the_same_rows()
         → HaveSameRows text other × (status ≡ end) }
 {}
 
-/// Arguments that ask for nothing that waits have an answer for any bytes.
+/// Arguments have an answer for any bytes, unless they ask for `mirror`: whatever the input, there is a text with a
+/// status that the program may give.
 pub fn every_form_has_an_answer()
     ensures { (words : List (List ℕ)) (asked : Option Form) (hearing : List Listening)
         (bytes : List ℕ)
-        → Asks words asked → AskAlone words
+        → Asks words asked → (IsForm words Mirror → ⊥)
         → (text : List ℕ) × ((status : Status) × AnswersBytes words hearing bytes text status) }
 {}
 

@@ -1,3 +1,4 @@
 pub mod Recorded
+pub mod Effects
 pub mod Going
 pub mod TextWords

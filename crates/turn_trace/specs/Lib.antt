@@ -2,3 +2,4 @@ pub mod Turns
 pub mod Bursts
 pub mod Lines
 pub mod Retelling
+pub mod Effects

@@ -6,7 +6,7 @@ use Rattle.campaign_defs.specs.Types.{Detail}
 use Rattle.front_laws.proofs.FirstStops.{specs_of_run}
 use Rattle.front_laws.proofs.Owned.{get_owning, seat_at}
 use Rattle.front_laws.proofs.WholeRuns.{owned_journals}
-use Rattle.front_laws.specs.Owned.{owned, owning}
+use Rattle.front_laws.specs.Owned.{owned, owning, seat_with}
 use Rattle.guard_defs.specs.GuardedRuns.{spec_of}
 use Rattle.nook_data.specs.declared.calls.Answer.{Answer}
 use Rattle.nook_data.specs.declared.campaign.MemberRow.{MemberRow}
@@ -27,25 +27,27 @@ use Rattle.sim_run.specs.Reached.{AreSeatsOf}
 
 -- ---- what a row says of the parts at the end of a run
 
-gone_in : List RunningPart → Bool
+abbrev gone_in : List RunningPart → Bool
 gone_in [] = false
 gone_in (seat ∷ seats) = is_given_up seat.run.state || gone_in seats
 
-broken_in : List RunningPart → Bool
+abbrev broken_in : List RunningPart → Bool
 broken_in [] = false
 broken_in (seat ∷ seats) =
     is_some (first_break (spec_of seat).class (spec_of seat).blocks seat.run.journal) || broken_in seats
 
-failing_in : List RunningPart → ℕ
+abbrev failing_in : List RunningPart → ℕ
 failing_in [] = 0
 failing_in (seat ∷ seats) = seat.run.state.failures + failing_in seats
 
-left_in : List RunningPart → List (List ℕ)
-left_in [] = []
-left_in (seat ∷ seats) =
-    left_lines (spec_of seat).class seat.run.journal (losses seat.run.journal) seat.run.state ∷ left_in seats
+left_of : RunningPart → List ℕ
+left_of seat = left_lines (spec_of seat).class seat.run.journal (losses seat.run.journal) seat.run.state
 
-clause_in : Option RunningPart → Option ℕ
+abbrev left_in : List RunningPart → List (List ℕ)
+left_in [] = []
+left_in (seat ∷ seats) = left_of seat ∷ left_in seats
+
+abbrev clause_in : Option RunningPart → Option ℕ
 clause_in None = None
 clause_in (Some seat) = first_clause (spec_of seat) seat.run.journal
 
@@ -77,12 +79,12 @@ failing_is (spec ∷ specs) (seat ∷ seats) are =
 
 left_is : (seats : List RunningPart) → AreSeatsOf (map spec_of seats) seats
     → left_texts (map spec_of seats) (map journal_of seats) ≡ left_in seats
+unfolding left_of
 left_is [] are = refl
 left_is (seat ∷ seats) are =
     ap (λ (p : PartState). left_lines (spec_of seat).class seat.run.journal (losses seat.run.journal) p
     ∷ left_texts (map spec_of seats) (map journal_of seats)) (sym are.0.state)
-    ∙ ap (λ (texts : List (List ℕ)). left_lines (spec_of seat).class seat.run.journal (losses seat.run.journal) seat.run.state ∷ texts)
-    (left_is seats are.1)
+    ∙ ap (λ (texts : List (List ℕ)). left_of seat ∷ texts) (left_is seats are.1)
 
 clause_is : (index : ℕ) (seats : List RunningPart)
     → clause_at (slice_get (map spec_of seats) index) (slice_get (map journal_of seats) index) ≡ clause_in (slice_get seats index)
@@ -107,11 +109,15 @@ module _ (change : ℕ → List Fault → List Fault) where
   failing_owned n [] = refl
   failing_owned n (seat ∷ seats) = ap (λ (m : ℕ). seat.run.state.failures + m) (failing_owned (n + 1) seats)
 
+  left_with : (faults : List Fault) (seat : RunningPart) → left_of (seat_with faults seat) ≡ left_of seat
+  unfolding left_of
+  left_with faults seat = refl
+
   left_owned : (n : ℕ) (seats : List RunningPart) → left_in (owning change n seats) ≡ left_in seats
   left_owned n [] = refl
   left_owned n (seat ∷ seats) =
-      ap (λ (texts : List (List ℕ)). left_lines (spec_of seat).class seat.run.journal (losses seat.run.journal) seat.run.state ∷ texts)
-      (left_owned (n + 1) seats)
+      ap (λ (text : List ℕ). text ∷ left_in (owning change (n + 1) seats)) (left_with (change n seat.run.state.spec.faults) seat)
+      ∙ ap (λ (texts : List (List ℕ)). left_of seat ∷ texts) (left_owned (n + 1) seats)
 
   clause_owned : (index : ℕ) (seats : List RunningPart)
       → clause_in (slice_get (owning change 0 seats) index) ≡ clause_in (slice_get seats index)
@@ -135,7 +141,7 @@ module _ (scenario : Scenario) (s : Simulation) (run : IsScheduledRun scenario s
 abbrev status_by : Bool → Bool → ℕ
 status_by broken gone = if broken then 7 else if gone then 1 else 0
 
-row_by : List (List Event) → List (List (ℕ × Answer)) → ℕ → ℕ → MemberRow
+abbrev row_by : List (List Event) → List (List (ℕ × Answer)) → ℕ → ℕ → MemberRow
 row_by journals answers status failures = record {
   status = status;
   events = events_count journals;
@@ -221,7 +227,7 @@ module _ (scenario other : Scenario) (s : Simulation) (change : ℕ → List Fau
       (clause_at (slice_get scenario.parts index) (slice_get (journals_of s) index)) (cause_at (slice_get journals index))) same_journals
       ∙ sym (ap (λ (x : Scenario). detail_by x ran.simulation) a ∙ ap (detail_by scenario) b)
     where
-      details : List (List ℕ) → List (List ℕ) → Option ℕ → Option FailCause → Detail
+      abbrev details : List (List ℕ) → List (List ℕ) → Option ℕ → Option FailCause → Detail
       details answers left clause cause = record {
         same_answers = texts_eq (answer_texts (answer_table base.simulation)) answers;
         same_left = texts_eq (left_texts base.scenario.parts (journals_of base.simulation)) left;
@@ -229,6 +235,6 @@ module _ (scenario other : Scenario) (s : Simulation) (change : ℕ → List Fau
         cause = cause;
       }
 
-      detail_by : Scenario → Simulation → Detail
+      abbrev detail_by : Scenario → Simulation → Detail
       detail_by x t = details (answer_texts (answer_table t)) (left_texts x.parts (journals_of t))
           (clause_at (slice_get x.parts index) (slice_get (journals_of t) index)) (cause_at (slice_get (journals_of t) index))

@@ -210,12 +210,13 @@ same_texts : (texts others : List (List ℕ)) → texts_eq texts others ≡ true
 same_texts [] [] e = refl
 same_texts [] (other ∷ others) e = absurd (true≢false (sym e))
 same_texts (text ∷ texts) [] e = absurd (true≢false (sym e))
-same_texts (text ∷ texts) (other ∷ others) e = by_first (bytes_eq text other) refl e
+same_texts (text ∷ texts) (other ∷ others) e = by_first (bytes_eq text other) refl e (same_texts texts others)
   where
-    by_first : (b : Bool) → bytes_eq text other ≡ b → (if b then texts_eq texts others else false) ≡ true → text ∷ texts ≡ other ∷ others
-    by_first true first rest =
-        ap (λ (x : List ℕ). x ∷ texts) (same_bytes text other first) ∙ ap (λ (xs : List (List ℕ)). other ∷ xs) (same_texts texts others rest)
-    by_first false first rest = absurd (true≢false (sym rest))
+    by_first : (b : Bool) → bytes_eq text other ≡ b → (if b then texts_eq texts others else false) ≡ true
+        → (texts_eq texts others ≡ true → texts ≡ others) → text ∷ texts ≡ other ∷ others
+    by_first true first rest more =
+        ap (λ (x : List ℕ). x ∷ texts) (same_bytes text other first) ∙ ap (λ (xs : List (List ℕ)). other ∷ xs) (more rest)
+    by_first false first rest more = absurd (true≢false (sym rest))
 
 asked_is : (b : Bool) (one other : Detail) → Some other ≡ if_asked b one → other ≡ one
 asked_is true one other e = same_inside e

@@ -100,7 +100,7 @@ module _ (entries : List Entry) (m : Machine) where
   unfolding turn
   turn_shows = fetch_shows (fetch_word m.memory m.cpu.counter)
 
-  words_by : List ℕ → List ℕ → Words
+  abbrev words_by : List ℕ → List ℕ → Words
   words_by registers memory = record { registers = registers; memory = memory }
 
   line_makes : (number : ℕ) → after_line (traced number m (turn entries m)) (words_of m) ≡ words_of (turn entries m).machine
@@ -132,18 +132,18 @@ module _ (entries : List Entry) where
       → after_steps entries (map strike (struck_at point faults)) (words_of m) ≡ words_of (strikes_at point entries faults m).machine
   strikes_make point [] m = refl
   strikes_make point (f ∷ faults) m = split (f.after == point)
-      (λ here. rw (here, strikes_at, struck_at) (by_trap (trap_of f.kind) refl))
+      (λ here. rw (here, strikes_at, struck_at) (by_trap (trap_of f.kind) refl (strikes_make point faults (struck_machine entries f.kind m))))
       (λ later. rw (later, strikes_at, struck_at) refl)
     where
-      struck : Machine
+      abbrev struck : Machine
       struck = struck_machine entries f.kind m
 
       by_trap : (o : Option TrapCause) → trap_of f.kind ≡ o
+          → after_steps entries (map strike (struck_at point faults)) (words_of struck) ≡ words_of (strikes_at point entries faults struck).machine
           → after_steps entries (map strike (f ∷ up_to_trap (struck_at point faults) o)) (words_of m)
           ≡ words_of (past_trap (strikes_at point entries faults struck) m faults o).machine
-      by_trap None none =
-          ap (after_steps entries (map strike (struck_at point faults))) (fault_makes f.kind m) ∙ strikes_make point faults struck
-      by_trap (Some cause) some = stop_makes f.kind cause m some
+      by_trap None none more = ap (after_steps entries (map strike (struck_at point faults))) (fault_makes f.kind m) ∙ more
+      by_trap (Some cause) some more = stop_makes f.kind cause m some
 
 -- ---- the whole burst
 

@@ -227,7 +227,7 @@ module _ (scenario other : Scenario) (s : Simulation) (change : ℕ → List Fau
       (clause_at (slice_get scenario.parts index) (slice_get (journals_of s) index)) (cause_at (slice_get journals index))) same_journals
       ∙ sym (ap (λ (x : Scenario). detail_by x ran.simulation) a ∙ ap (detail_by scenario) b)
     where
-      abbrev details : List (List ℕ) → List (List ℕ) → Option ℕ → Option FailCause → Detail
+      details : List (List ℕ) → List (List ℕ) → Option ℕ → Option FailCause → Detail
       details answers left clause cause = record {
         same_answers = texts_eq (answer_texts (answer_table base.simulation)) answers;
         same_left = texts_eq (left_texts base.scenario.parts (journals_of base.simulation)) left;
@@ -235,6 +235,6 @@ module _ (scenario other : Scenario) (s : Simulation) (change : ℕ → List Fau
         cause = cause;
       }
 
-      abbrev detail_by : Scenario → Simulation → Detail
+      detail_by : Scenario → Simulation → Detail
       detail_by x t = details (answer_texts (answer_table t)) (left_texts x.parts (journals_of t))
           (clause_at (slice_get x.parts index) (slice_get (journals_of t) index)) (cause_at (slice_get (journals_of t) index))

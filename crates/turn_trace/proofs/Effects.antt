@@ -135,7 +135,7 @@ module _ (entries : List Entry) where
       (λ here. rw (here, strikes_at, struck_at) (by_trap (trap_of f.kind) refl (strikes_make point faults (struck_machine entries f.kind m))))
       (λ later. rw (later, strikes_at, struck_at) refl)
     where
-      abbrev struck : Machine
+      struck : Machine
       struck = struck_machine entries f.kind m
 
       by_trap : (o : Option TrapCause) → trap_of f.kind ≡ o

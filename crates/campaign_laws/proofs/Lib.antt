@@ -1,4 +1,4 @@
-pub mod Alike
+pub mod Statuses
 pub mod Certified
 pub mod Struck
 pub mod ValidFaults

@@ -1,0 +1,4 @@
+mod Lookups
+mod Outside
+mod Holding
+mod Contained

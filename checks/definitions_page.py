@@ -91,6 +91,11 @@ CHAPTERS = (
         ("explore_defs/Orders", "explore_defs/Outcomes", "explore_defs/Explored", "explore_laws/Closing"),
     ),
     Chapter(
+        "Containment",
+        "What of a run can be seen from outside of one part.",
+        ("containment_laws/Containment",),
+    ),
+    Chapter(
         "Threads",
         "The lock, the desk of a part, and the workers.",
         ("shares/Shares", "turn_lock/Views", "turn_lock/Seats", "turn_lock/Turns", "clocks/Clocks", "desk_like/Desks",

@@ -40,7 +40,7 @@ use Rattle.containment_laws.proofs.Lookups.{chosen_by_recovery, chosen_by_thread
 use Rattle.containment_laws.proofs.Outside.{followed, some_at, within}
 
 -- What each simulation that a scenario's steps lead to keeps; and that a thread that has something to do in a part can
--- go on there, or somebody else can.
+-- take a step there, or somebody else can.
 
 -- a part and its journal are a run of the scenario's part with that index
 pub record IsSeat (scenario : Scenario) (k : ℕ) (seat : RunningPart) : Type 0 where
@@ -240,7 +240,7 @@ module _ (scenario : Scenario) (valid : IsValidScenario scenario) where
       let g = good_choice s actor c chosen in
       subst (Holds scenario) (sym (followed s c g.seat g.at)) (step_holds s c g h)
 
-  -- ---- who can go on
+  -- ---- who can continue
 
   thread_at : (parts : List RunningPart) (n : ℕ) (specs : List ThreadSpec) (threads : List ThreadState) (k : ℕ) (t : ThreadState) → AreThreadsOf parts n specs threads
       → slice_get threads k ≡ Some t → (spec : ThreadSpec) × IsThreadOf parts (n + k) spec t

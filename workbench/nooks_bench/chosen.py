@@ -3,7 +3,6 @@
 from __future__ import annotations
 
 import random
-from dataclasses import replace
 from typing import Sequence
 
 from .facts import CHANGES, FAULT_KINDS, MEMORY_MAP, MOST_WORD, REGISTERS
@@ -12,7 +11,6 @@ from .probe import Probe
 from .program import Mistake
 from .report import SHADOW, Event, Part
 from .scenario import Fault
-from .words import ranges_text
 
 # A driver's own memory: initial words and heap, stacks, buffers. Pokes are drawn from it if no address is named.
 OWN_WORDS = (MEMORY_MAP["DATA_START"], MEMORY_MAP["BUFFERS_END"] - 1)
@@ -20,40 +18,16 @@ OWN_WORDS = (MEMORY_MAP["DATA_START"], MEMORY_MAP["BUFFERS_END"] - 1)
 
 def bursts_of_call(part: Part, call: int, attempt: int | None) -> list[Event]:
     """The bursts of a call, or only of one of its attempts."""
-    found: dict[int, list[Event]] = {}
+    found: list[Event] = []
     current = 0
     for event in part.events:
         if event.kind == "enter" and event.call == call:
             current = event.attempt
-        if event.kind == "burst" and event.call == call:
-            found.setdefault(current, []).append(event)
+        if event.kind == "burst" and event.call == call and attempt in (None, current):
+            found.append(event)
     if not found:
-        calls = sorted({event.call for event in part.bursts() if event.call})
-        raise Mistake(f"part {part.index} has no burst of call c{call}: it has {there_are('call', calls)}")
-    if attempt is None:
-        return [event for events in found.values() for event in events]
-    if attempt not in found:
-        raise Mistake(f"call c{call} of part {part.index} has no try {attempt}: it has {there_are('try', list(found))}")
-    return found[attempt]
-
-
-def there_are(noun: str, numbers: list[int]) -> str:
-    """Describes numbered things: `bursts 1-6`, `burst 3`, `no call`."""
-    plural = {"try": "tries"}.get(noun, noun + "s")
-    return f"{noun if len(numbers) == 1 else plural} {ranges_text(numbers)}" if numbers else f"no {noun}"
-
-
-def check_bursts(selection: Selection, parts: Sequence[Part]) -> None:
-    """Refuses a burst that none of these runs of the struck part has, or none of those of the chosen call."""
-    if selection.bursts is None:
-        return
-    whole = replace(selection, bursts=None)
-    several = [chosen_bursts(whole, part) if selection.call is not None else part.bursts() for part in parts]
-    there = sorted({event.burst for events in several for event in events})
-    unknown = sorted(set(selection.bursts) - set(there))
-    if unknown:
-        of = f"part {selection.part}" if selection.call is None else f"call c{selection.call} of part {selection.part}"
-        raise Mistake(f"{of} has no {there_are('burst', unknown)}: it has {there_are('burst', there)}")
+        raise Mistake(f"part {part.index} has no burst of call c{call}" + (f", try {attempt}" if attempt else ""))
+    return found
 
 
 def chosen_bursts(selection: Selection, part: Part) -> list[Event]:

@@ -11,7 +11,6 @@ from typing import TextIO, cast
 from . import __version__
 from .messages import say
 from .output import Output, Unwritten
-from .places import check_places
 from .program import Mistake, find_program
 
 # The subcommands, each a module of this package, with its text in `--help`. Only the module of the subcommand that is
@@ -43,9 +42,8 @@ UNWRITTEN = 5
 INTERRUPTED = 130
 
 ABOUT = """A workbench around the proved program nooks. Each subcommand has its own --help; docs/WORKBENCH.md
-walks through a question. The program is that of --program, else that of the environment's NOOKS, else the nooks in the
-folder of nooks-bench, else the nooks on PATH, else the proved, the unproved or the plain one that is built in a
-clone."""
+walks through a question. The program is that of --program, else that of the environment's NOOKS, else the first that
+./nooks, ./nooks-unproved or ./nooks-plain built, else the installed one."""
 
 EPILOG = """exit status: 0; 1 by sweep's --fail-on; 2 for a mistake, which one line on standard error reports; 5 if
 standard output cannot be written; 130 if interrupted"""
@@ -89,7 +87,6 @@ def command(arguments: list[str]) -> int:
             return versions(args.program)
         if args.subcommand is None:
             made.error("which SUBCOMMAND?")
-        check_places(args)
         status: int = args.run(args)
         return status
     except Mistake as mistake:

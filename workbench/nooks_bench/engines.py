@@ -3,21 +3,14 @@ each batch when it is done."""
 
 from __future__ import annotations
 
-import contextlib
 import functools
 import importlib
-import logging
 import os
-import sys
-import tempfile
-import time
-from concurrent.futures import CancelledError
-from dataclasses import dataclass
 from typing import Any, Iterator, Sequence
 
 from .batches import Batch, Results, run_batch
 from .pool import each_done
-from .program import Mistake, Program
+from .program import Mistake
 
 # The faults of a batch for a cluster: enough that sending it there and back takes little of its time.
 CLUSTER_BATCH = 400
@@ -29,16 +22,6 @@ LONGEST_LOCAL = 1.0
 
 # How often a batch is started again after its worker went away.
 RETRIES = 10
-
-# How many seconds a sweep waits for a scheduler, and for a worker; how long it pauses between two looks at a cluster;
-# and how long it tries to leave one.
-PATIENCE = 20.0
-PAUSE = 0.02
-CLOSING = 2.0
-
-
-class Halted(Mistake):
-    """A sweep cannot go on, and the outcomes that are known are good."""
 
 
 def local_size(faults: int, jobs: int, seconds: float) -> int:
@@ -66,87 +49,26 @@ def package_file(folder: str) -> str:
     return path
 
 
-def cluster_batch(path: str, version: str | None, batch: Batch) -> tuple[str, Results]:
-    """Runs a batch as a worker of a cluster. Returns what is wrong with the worker, empty if nothing is, and the
-    results. An exception would be tried again on other workers."""
-    worker: str = importlib.import_module("distributed").get_worker().address
+def run_dask(address: str, path: str, batches: Sequence[Batch]) -> Iterator[tuple[int, Results]]:
+    """Runs batches on a cluster. If a worker goes away, the scheduler gives its batch to another one."""
+    import logging
+    import tempfile
+
     try:
-        own = Program(path).version()
-        if own != version:
-            return f"the worker {worker} has another program, {path}: {own}; the program here is {version}", []
-        return "", run_batch(path, batch)
-    except Mistake as mistake:
-        return f"the worker {worker}: {mistake}", []
-
-
-@dataclass(frozen=True)
-class Cluster:
-    """A connection to a Dask scheduler. `library` is the package `distributed`."""
-
-    library: Any
-    client: Any
-    address: str
-
-    def check(self, lonely: float) -> None:
-        """Fails if the scheduler is gone, or if there has been no worker for some seconds."""
-        if self.client.status != "running":
-            raise Halted(f"the Dask scheduler at {self.address} went away")
-        if lonely > PATIENCE:
-            raise Halted(f"the Dask scheduler at {self.address} has had no worker for {PATIENCE:g} seconds")
-
-    def results_of(self, future: Any) -> Results:
-        """Returns the results of a batch that is done."""
-        try:
-            wrong, results = future.result()
-        except (CancelledError, TimeoutError, OSError) as error:
-            raise Halted(f"the Dask scheduler at {self.address} went away") from error
-        except self.library.KilledWorker as error:
-            raise Halted(f"the Dask scheduler at {self.address} gave up: each worker with this batch died") from error
-        if wrong:
-            raise Halted(wrong)
-        done: Results = results
-        return done
-
-    def each_done(self, futures: Sequence[Any]) -> Iterator[tuple[int, Results]]:
-        """Yields the index and the results of each batch as it is done."""
-        indices = {future.key: index for index, future in enumerate(futures)}
-        done = self.library.as_completed(futures)
-        seen = time.monotonic()
-        while not done.is_empty():
-            ready = done.next_batch(block=False) if done.has_ready() else []
-            yield from ((indices[future.key], self.results_of(future)) for future in ready)
-            if ready or self.client.scheduler_info()["workers"]:
-                seen = time.monotonic()
-            if not ready:
-                self.check(time.monotonic() - seen)
-                time.sleep(PAUSE)
-
-
-def dask_library() -> Any:
-    """Returns the package `distributed`."""
-    try:
-        return importlib.import_module("distributed")
+        distributed: Any = importlib.import_module("distributed")
     except ImportError as error:
-        package = "the Python package distributed (Debian's python3-distributed)"
-        raise Mistake(f"--dask needs {package}, which {sys.executable} does not have") from error
-
-
-def run_dask(address: str, path: str, version: str | None, batches: Sequence[Batch]) -> Iterator[tuple[int, Results]]:
-    """Runs batches on a cluster, whose workers have the program of that version at the path. If a worker goes away, the
-    scheduler gives its batch to another one."""
-    library = dask_library()
-    # What goes wrong is reported here, in one line; what the client logs about it, also while it closes, is noise.
-    logging.disable(logging.CRITICAL)
+        raise Mistake("--dask needs `distributed` (python3-distributed), and this Python has none") from error
     try:
-        client = library.Client(address, timeout=PATIENCE)
+        client = distributed.Client(address, timeout=20)
     except (OSError, ValueError) as error:
         raise Mistake(f"no Dask scheduler answers at {address}: {error}") from error
-    cluster = Cluster(library, client, address)
-    try:
-        with tempfile.TemporaryDirectory() as folder:
-            client.upload_file(package_file(folder))
-        submit = functools.partial(client.submit, cluster_batch, path, version, pure=False, retries=RETRIES)
-        yield from cluster.each_done([submit(batch) for batch in batches])
-    finally:
-        with contextlib.suppress(OSError, TimeoutError):
-            client.close(timeout=CLOSING)
+    with client, tempfile.TemporaryDirectory() as folder:
+        client.upload_file(package_file(folder))
+        futures = [client.submit(run_batch, path, batch, pure=False, retries=RETRIES) for batch in batches]
+        indices = {future.key: index for index, future in enumerate(futures)}
+        try:
+            for future in distributed.as_completed(futures):
+                yield indices[future.key], future.result()
+        finally:
+            # All results are here, or nothing waits for them any more: what the client logs while it closes is noise.
+            logging.disable(logging.CRITICAL)

@@ -70,7 +70,7 @@ def pages_of(program: Program, name: str, scenario: Scenario, args: argparse.Nam
     for guard, suffix in ((False, ""), (True, "-guard")):
         data = made_data(program, scenario, guard, args.traces, f"{name}{suffix}", args)
         file = f"{name}{suffix}.html"
-        write(os.path.join(args.gallery, file), page_text(data))
+        write(os.path.join(args.output, file), page_text(data))
         how = f"{name}, with a guard" if guard else name
         made.append(Entry(file, how, data["status"]))
         if not data["status"].startswith(f"status {NUMBERS['contract_broken']}:"):
@@ -111,13 +111,13 @@ def run(args: argparse.Namespace) -> int:
     program = find_program(args.program)
     scenarios = scenarios_of(args.folder)
     try:
-        os.makedirs(args.gallery, exist_ok=True)
+        os.makedirs(args.output, exist_ok=True)
     except OSError as error:
-        raise Mistake(f"{args.gallery}: {error.strerror}") from error
+        raise Mistake(f"{args.output}: {error.strerror}") from error
     entries = [entry for name, scenario in scenarios.items() for entry in pages_of(program, name, scenario, args)]
     title = f"Runs of {os.path.basename(os.path.abspath(args.folder))}"
-    write(os.path.join(args.gallery, "index.html"), index_text(title, entries))
-    print(os.path.join(args.gallery, "index.html"))
+    write(os.path.join(args.output, "index.html"), index_text(title, entries))
+    print(os.path.join(args.output, "index.html"))
     return 0
 
 
@@ -125,7 +125,7 @@ def add_to(commands: argparse._SubParsersAction[argparse.ArgumentParser]) -> Non
     parser = commands.add_parser("gallery", help="the pages of all scenarios of a folder", description=ABOUT)
     parser.add_argument("folder", metavar="FOLDER", help="the folder of the scenarios")
     about = "the folder that the pages are written to"
-    parser.add_argument("-o", "--output", dest="gallery", metavar="FOLDER", required=True, help=about)
+    parser.add_argument("-o", "--output", metavar="FOLDER", required=True, help=about)
     traced = f"trace at most N bursts of each part (default {DEFAULT_TRACES})"
     parser.add_argument("--traces", type=int, default=DEFAULT_TRACES, metavar="N", help=traced)
     parser.set_defaults(run=run)

@@ -8,7 +8,7 @@ from dataclasses import dataclass, replace
 from typing import Iterator, Sequence
 
 from .batches import Asking, Batch, report_of
-from .chosen import check_bursts, faults_of
+from .chosen import faults_of
 from .faults import Selection
 from .outcomes import Outcome
 from .pool import each_done
@@ -50,7 +50,6 @@ def plans_of(
 ) -> list[Plan]:
     """Returns the plans of all bases, in order."""
     found = dict(each_done(functools.partial(plan_of, path, selection, guard), bases, jobs))
-    check_bursts(selection, [plan.report.parts[selection.part] for plan in found.values()])
     plans: list[Plan] = []
     first = 0
     for number in range(len(bases)):

@@ -5,7 +5,6 @@ from __future__ import annotations
 import json
 import os
 import subprocess
-import sys
 import tempfile
 from dataclasses import dataclass
 from typing import IO, Any, Iterator
@@ -20,9 +19,6 @@ BUILT = {
     "./nooks-unproved": os.path.join(TOP, "out/unproved/nooks"),
     "./nooks-plain": os.path.join(TOP, "out/plain/nooks"),
 }
-
-# Whether this package is in a clone of the repository, which has these scripts, and not installed.
-IS_CLONE = os.path.exists(os.path.join(TOP, "crates.txt"))
 
 # The statuses of a run with a complete report.
 REPORTED = (STATUSES["done"], STATUSES["given_up"], STATUSES["contract_broken"])
@@ -122,8 +118,7 @@ class Program:
 
     def too_old(self, what: str) -> Mistake:
         """Returns the mistake for a program that does not have something yet."""
-        other = "the program that ./nooks-plain builds has it" if IS_CLONE else "--program names another"
-        return Mistake(f"{self.path} is too old: it has no {what}; {other}")
+        return Mistake(f"{self.path} is too old: it has no {what}; the program that ./nooks-plain builds has it")
 
     def has_campaign_key(self, key: str) -> bool:
         """Returns whether a campaign may have a key. The program reports a key that is not allowed first, before the
@@ -166,50 +161,28 @@ def unnamed_file() -> IO[bytes]:
     return tempfile.TemporaryFile()
 
 
-def is_in_clone(path: str) -> bool:
-    """Returns whether a program is a script of a clone of the repository. It is not run: it may begin to build."""
-    return os.path.exists(os.path.join(os.path.dirname(os.path.realpath(path)), "crates.txt"))
-
-
-def neighbour() -> str | None:
-    """Returns the path of a `nooks` in the folder of this command, or in the folder bin of the installed tree that this
-    package is in; None if there is none."""
-    folders = [os.path.dirname(os.path.abspath(sys.argv[0]))]
-    if os.path.basename(TOP) == "share":
-        folders.append(os.path.join(os.path.dirname(TOP), "bin"))
-    paths = [os.path.join(folder, "nooks") for folder in folders]
-    return next((path for path in paths if os.access(path, os.X_OK) and not is_in_clone(path)), None)
-
-
-def on_path() -> str | None:
-    """Returns the path of the first `nooks` on PATH; None if there is none, or if that is the script of a clone."""
+def installed() -> str | None:
+    """Returns the path of the installed `nooks`, None if there is none. The repository's script of that name is not
+    used, since it may begin a proof."""
     import shutil
 
     found = shutil.which("nooks")
-    return None if found is None or is_in_clone(found) else found
-
-
-def built() -> str | None:
-    """Returns the path of the first program that is built in the repository, None if there is none."""
-    return next((path for path in BUILT.values() if os.access(path, os.X_OK)), None)
-
-
-def missing_program() -> Mistake:
-    """Returns the mistake if there is no program. Only a clone has the scripts that build one."""
-    if IS_CLONE:
-        *scripts, last = BUILT
-        builders = f"{', '.join(scripts)} or {last}"
-        return Mistake(f"no program is built: {builders} builds one; --program or $NOOKS names another")
-    folder = os.path.dirname(os.path.abspath(sys.argv[0]))
-    return Mistake(f"there is no program nooks in {folder} or on PATH; --program or $NOOKS names one")
+    if found is None:
+        return None
+    folder = os.path.dirname(os.path.realpath(found))
+    return None if os.path.exists(os.path.join(folder, "crates.txt")) else found
 
 
 def default_path() -> str:
-    """Returns the default program: the one in this command's folder, the one on PATH, or the first that is built in
-    the repository."""
-    found = neighbour() or on_path() or built()
+    """Returns the default program: the first that is built in the repository, or the installed one."""
+    for path in BUILT.values():
+        if os.access(path, os.X_OK):
+            return path
+    found = installed()
     if found is None:
-        raise missing_program()
+        scripts = list(BUILT)
+        others = f"{', '.join(scripts[:-1])} or {scripts[-1]}"
+        raise Mistake(f"no program is built: {others} builds one; --program or $NOOKS names another")
     return found
 
 

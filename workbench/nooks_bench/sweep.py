@@ -27,7 +27,6 @@ from .totals import own_groups, own_lines, total_lines, whole_lines, wilson
 from .words import counted
 
 INTERRUPTED = 130
-HALTED = 2
 
 ABOUT = """Runs the scenario FILE once, then with each of a set of faults, and reports for each what became of it
 against the run without it. Rows with the same outcome, cause and burst are folded, with their number and one fault of
@@ -110,12 +109,10 @@ def sweep_of(args: argparse.Namespace, base: Scenario | None = None) -> Sweep:
 
 
 def swept(args: argparse.Namespace, base: Scenario | None = None) -> list[Swept]:
-    """Returns the whole sweep that the options ask for. One that ended early is not whole."""
+    """Returns the whole sweep that the options ask for. An interrupted sweep is not whole."""
     sweep = sweep_of(args, base)
     if sweep.interrupted:
         raise KeyboardInterrupt
-    if sweep.halted:
-        raise sweep.halted
     return sweep.runs()
 
 
@@ -190,10 +187,10 @@ def fails(runs: Sequence[Swept], named: str) -> bool:
     return any(OUTCOMES.index(name) >= least for name in names)
 
 
-def ended_text(sweep: Sweep, why: str) -> str:
-    """Describes how far a sweep came that ended early."""
+def interrupted_text(sweep: Sweep) -> str:
+    """Describes how far an interrupted sweep came."""
     done, chosen = sweep.done(), len(sweep.known)
-    text = f"{why}: {done:,} of {chosen:,} faults"
+    text = f"interrupted: {done:,} of {chosen:,} faults"
     if done == chosen:
         return f"{text}, and not all instructions are known"
     return f"{text}; the same command with --resume continues it" if sweep.journal else text
@@ -210,11 +207,8 @@ def run(args: argparse.Namespace) -> int:
     else:
         print(as_text(sweep, runs, args))
     if sweep.interrupted:
-        say(ended_text(sweep, "interrupted"))
+        say(interrupted_text(sweep))
         return INTERRUPTED
-    if sweep.halted:
-        say(ended_text(sweep, str(sweep.halted)))
-        return HALTED
     return int(bool(args.fail_on) and fails(runs, args.fail_on))
 
 

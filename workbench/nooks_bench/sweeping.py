@@ -8,7 +8,7 @@ from typing import Iterator
 
 from .batches import Asking, Batch, Results
 from .chosen import templates
-from .engines import CLUSTER_BATCH, MOST_LOCAL, Halted, local_size, run_dask, run_local
+from .engines import CLUSTER_BATCH, MOST_LOCAL, local_size, run_dask, run_local
 from .every import Every, Whole, can_say
 from .faults import Selection
 from .journal import Journal
@@ -41,8 +41,7 @@ Known = list[Outcome | None]
 class Sweep:
     """A sweep that is run. `known` has the outcome of each fault so far, by its index in the whole sweep, and `guarded`
     the outcome with a guard. `first` is the report of the scenario under its own schedule. `wholes` has the totals of
-    the tables of campaigns with `every`, without a guard and with one. `halted` says why it ended early, if a cluster
-    failed."""
+    the tables of campaigns with `every`, without a guard and with one."""
 
     program: Program
     selection: Selection
@@ -55,7 +54,6 @@ class Sweep:
     wholes: dict[bool, Whole] = field(default_factory=dict)
     texts: dict[tuple[int, int, int], str] = field(default_factory=dict)
     interrupted: bool = False
-    halted: Halted | None = None
 
     def start(self, known: dict[int, Outcome]) -> None:
         """Begins with the outcomes that a journal has, by index. Those with a guard come after all others."""
@@ -72,8 +70,7 @@ class Sweep:
     def results(self, batches: list[Batch]) -> Iterator[tuple[int, Results]]:
         """Yields the index and the results of each batch as it is done."""
         if self.how.dask:
-            path = self.how.dask_program or self.program.path
-            return run_dask(self.how.dask, path, self.program.version(), batches)
+            return run_dask(self.how.dask, self.how.dask_program or self.program.path, batches)
         return run_local(self.program.path, batches, self.how.jobs)
 
     def take(self, known: Known, first: int, results: Results, number: int, progress: Progress) -> None:
@@ -87,8 +84,7 @@ class Sweep:
         progress.take(results, number)
 
     def run(self) -> None:
-        """Runs what is left. An interruption ends it with the outcomes that are known so far, and so does a cluster that
-        fails."""
+        """Runs what is left. An interruption ends it with the outcomes that are known so far."""
         try:
             self.run_unguarded()
             if self.how.guard:
@@ -97,10 +93,6 @@ class Sweep:
                 self.ask_instructions()
         except KeyboardInterrupt:
             self.interrupted = True
-        except Halted as halted:
-            if not self.done():
-                raise
-            self.halted = halted
 
     def run_unguarded(self) -> None:
         """Tries the faults without a guard."""

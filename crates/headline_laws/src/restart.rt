@@ -8,11 +8,11 @@ ghost use Rattle.part_defs.specs.Runs.{IsRun, state_of};
 ghost use Rattle.headline_laws.specs.Restart.{AreAlike, IsClean, IsRestart, Survive, is_load, is_renewing, is_reset};
 ghost use Rattle.std.specs.Prelude.{List, [], ◌∷◌, ◌++◌, ◌≡◌, true};
 
-/// After every Load of a run, that of the boot or that of a recovery, the domain is the one after the boot's Load, except
-/// for the kernel objects, a disk's blocks and their counts of commands, and the frames in a link's ring. So whatever the
-/// driver did before: text, data, stacks and buffers are the image and zeros, no context is Inside, the driver holds
-/// nothing and is not registered, and the device's registers have the defaults. A Reset leaves no frame in the ring, so
-/// those in it arrived later.
+/// After every Load of a run, that of the boot or that of a recovery, the domain is the one after the boot's Load,
+/// except for the kernel objects, a disk's blocks and their counts of commands, and the frames in a link's ring. So
+/// whatever the driver did before: text, data, stacks and buffers are the image and zeros, no context is Inside, the
+/// driver holds nothing and is not registered, and the device's registers have the defaults. A Reset leaves no frame in
+/// the ring, so those in it arrived later.
 pub fn every_restart_is_clean()
     ensures load { (spec : PartSpec) (journal front back : List Event) (e : Event)
         → IsValidPart spec → IsRun spec journal → journal ≡ front ++ e ∷ back → is_load e ≡ true
@@ -22,8 +22,8 @@ pub fn every_restart_is_clean()
         → ring_of (state_of spec (front ++ e ∷ [])).domain.device ≡ [] }
 {}
 
-/// From a failure to the Load that follows it no event changes a kernel object, a block of a disk or a count of commands.
-/// So what a restarted driver finds there is what the failure left.
+/// From a failure to the Load that follows it no event changes a kernel object, a block of a disk or a count of
+/// commands. So what a restarted driver finds there is what the failure left.
 pub fn medium_and_objects_survive_a_failure()
     ensures { (spec : PartSpec) (journal front back : List Event) (e : Event)
         → IsValidPart spec → IsRun spec journal → journal ≡ front ++ e ∷ back

@@ -17,5 +17,6 @@ pub fn one_part_does_not_change_the_others()
         → led (begins s) path.picks ≡ Some path.end → HasRunLike part u path.end }
     ensures whole { (s u : Scenario) (part : ℕ) (path : Path)
         → IsValidScenario s → IsValidScenario u → DifferIn part s u
-        → IsWholePath s path → (other : Path) × IsWholePath u other × LookAlike part path.end other.end }
+        → IsWholePath s path
+        → (other : Path) × IsWholePath u other × LookAlike part path.end other.end }
 {}

@@ -35,6 +35,8 @@ pub fn medium_and_objects_survive_a_failure()
 /// follow one may follow the other, and lead to the same part.
 pub fn what_follows_a_restart_is_determined()
     ensures { (spec : PartSpec) (a b more : List Event)
-        → IsValidPart spec → IsRestart spec a → IsRestart spec b → AreAlike (state_of spec a) (state_of spec b)
-        → IsRun spec (a ++ more) → IsRun spec (b ++ more) × (state_of spec (a ++ more) ≡ state_of spec (b ++ more)) }
+        → IsValidPart spec → IsRestart spec a → IsRestart spec b
+        → AreAlike (state_of spec a) (state_of spec b)
+        → IsRun spec (a ++ more)
+        → IsRun spec (b ++ more) × (state_of spec (a ++ more) ≡ state_of spec (b ++ more)) }
 {}
